@@ -172,7 +172,7 @@ def test_the_reserve_is_left(spool):
     fill(program, job)
     rows = program.listing("jobs\n")
     refused = [f"close {job} f\n", CREATE, 'createby q u "t" 1 50 "" 4000000000\n', b"send %d 10\n0123456789\n" % job]
-    for command in [*refused, *([f"close {job} f text/plain\n"] if spool.is_service else [])]:
+    for command in [*refused, *([f"close {job} f text/plain\n", f"closeat {job} 1 f\n"] if spool.is_service else [])]:
         same(f"{command}", program.ask(command), "error full")
     same("the rows", program.listing("jobs\n"), rows)
     for count in range(2_000):

@@ -57,6 +57,23 @@ def test_one_pair_of_syncs(folder):
     holds(f"its replies: {calls}", "reply" in calls and "sync" not in calls[2:])
 
 
+def test_a_last_piece_with_its_close(folder):
+    """The last piece of a document and `closeat`, sent at once, cost two syncs, and their replies come after these. A refused one costs none."""
+    client, job = held_queue(folder)
+    same("job", client.create("q"), job)
+    with folder.traced(*SYNCS):
+        client.say(b"send %d 6\nhello\n\ncloseat %d 6 f\n" % (job, job))
+        replies = [client.reply() for _ in range(2)]
+    same("replies", replies, ["ok bytes 6", "ok type application/octet-stream stages 1"])
+    calls = calls_in(folder)
+    same("syncs", calls[:2], ["sync", "sync"])
+    holds(f"its replies: {calls}", "reply" in calls and "sync" not in calls[2:])
+    other = client.create("q")
+    with folder.traced(*SYNCS):
+        same("another size", client.ask(f"closeat {other} 6 f\n"), "error size")
+    same("syncs of a refusal", calls_in(folder).count("sync"), 0)
+
+
 def test_clients_share_a_pair_of_syncs(folder):
     """Commands of 16 clients that come at the same time cost two syncs, and no client gets a reply before these."""
     first, _ = held_queue(folder)

@@ -426,6 +426,87 @@ def test_closing_with_a_type(folder):
     same("a closed one", client.ask("close 1 f a/b\n"), client.ask("close 1 f\n"))
 
 
+# ---- closing at a size
+
+def test_closing_at_a_size(folder):
+    """`closeat JOB SIZE NAME [TYPE]` closes a job whose document has this size, as `close` does. A job of another size is still incoming."""
+    folder.two_stages(0)
+    client = folder.open("q", target="a/b")
+    for words in ("f.x", "f", "f.x a/b", '"a b" a/a', "f x/unknown"):
+        closed, sized = client.create("q"), client.create("q")
+        for job in (closed, sized):
+            same("send", client.ask(b"send %d 2\nx\n\n" % job), "ok bytes 2")
+        for size in (0, 1, 3, 2**32 + 2, 9_999_999_999_999):
+            same(f"closeat {size}", client.ask(f"closeat {sized} {size} {words}\n"), "error size")
+        same("it is still incoming", client.state(sized), "4 job-incoming")
+        same(f"close {words}", client.ask(f"closeat {sized} 2 {words}\n"), client.ask(f"close {closed} {words}\n"))
+        same("its type", client.fields(sized)["type"], client.fields(closed)["type"])
+    client.until_ended([1, 2, 5, 6, 7, 8])
+    same("the others have no filters", {client.state(job) for job in (3, 4, 9, 10)}, {"8 no-filter"})
+    same("printed", folder.printed(), "x\n" * 6)
+    empty, closed = client.create("q"), client.create("q")
+    same("another size than none", client.ask(f"closeat {empty} 1 f.x\n"), "error size")
+    same("an empty document", client.ask(f"closeat {empty} 0 f.x\n"), client.ask(f"close {closed} f.x\n"))
+    job = client.create("q")
+    same("send", client.ask(b"send %d 2\nx\n\n" % job), "ok bytes 2")
+    for bad in ("", "2", "f", "2 f a/b c", "2 f noslash", "2 f a/", "-1 f", "+2 f", "2x f", "10000000000000 f", "00000000000002 f", '2 "f', '2 "f"g', "2 f\tg a/b"):
+        same(f"closeat {bad}", client.ask(f"closeat {job} {bad}\n"), "error syntax")
+    for bad in ("closeat", "closeat 0 2 f", "closeat x 2 f", "closeats 1 2 f"):
+        same(bad, client.ask(f"{bad}\n"), "error syntax")
+    same("it is still incoming", client.state(job)[0], "4")
+    same("zeros before the number", client.ask(f"closeat {job} 0000000000002 f.x\n"), "ok type a/a stages 2")
+
+
+def test_refusals_of_closeat(folder):
+    """A job that does not exist, waits, was canceled or was printed: the reply is that of `close`, whatever the size."""
+    client = folder.open("q")
+    printed = client.submit("q")
+    client.until_state(printed, "9")
+    client.does("disable q")
+    waiting, canceled = client.submit("q"), client.create("q")
+    client.does(f"cancel {canceled}")
+    for job, wanted in ((999, "error 5 NoJob"), (waiting, "error 6 NotIncoming"), (canceled, "error 10 JobEnded"), (printed, "error 10 JobEnded")):
+        same(f"close {job}", client.ask(f"close {job} f\n"), wanted)
+        for words in ("2 f", "3 f", "0 f", "2 f a/b", "3 f a/b"):
+            same(f"closeat {job} {words}", client.ask(f"closeat {job} {words}\n"), wanted)
+
+
+def test_pieces_and_their_close_at_once(folder):
+    """Sends and `closeat` in one write: the type is detected from all pieces, and the job is closed only if each piece was accepted once."""
+    folder.two_stages(0)
+    folder.write("types", "a/a string(0,abcd)\n")
+    client = folder.open("q", target="a/b")
+
+    def said(*texts):
+        client.say("".join(texts))
+        return [client.reply() for _ in texts]
+
+    for words, wanted in (("f", "ok type a/a stages 2"), ("f a/b", "ok type a/b stages 1")):
+        job = client.create("q")
+        replies = said(f"send {job} 2\nab\n", f"send {job} 2\ncd\n", f"closeat {job} 4 {words}\n")
+        same("replies", replies, ["ok bytes 2", "ok bytes 4", wanted])
+        client.until_state(job, "9")
+    same("printed", folder.printed(), "abcdabcd")
+    job = client.create("q")
+    replies = said(f"send {job} 2\nab\n", f"send {job} 65537\n{'x' * 65_537}\n", f"closeat {job} 65539 f\n")
+    same("after a refused piece", replies, ["ok bytes 2", "error 7 TooLong", "error size"])
+    replies = said("send 999 2\ncd\n", f"closeat {job} 4 f a/b\n")
+    same("after a piece for another job", replies, ["error 5 NoJob", "error size"])
+    replies = said(f"send {job} 1\nc\n", f"send {job} 1\nc\n", f"closeat {job} 3 f\n")
+    same("after a piece that was sent twice", replies, ["ok bytes 3", "ok bytes 4", "error size"])
+    same("it is still incoming", client.state(job), "4 job-incoming")
+    same("close", client.ask(f"closeat {job} 4 f a/b\n"), "ok type a/b stages 1")
+    client.until_state(job, "9")
+    same("printed", folder.printed(), "abcdabcdabcc")
+    client.does("disable q")
+    job = client.create("q")
+    replies = said(f"send {job} 2\nab\n", f"closeat {job} 2 f a/b\n", f"closeat {job} 2 f a/b\n", f"send {job} 2\ncd\n")
+    same("closed once", replies, ["ok bytes 2", "ok type a/b stages 1", "error 6 NotIncoming", "error 6 NotIncoming"])
+    job = client.create("q")
+    replies = said(f"send {job} 2\nab\n", f"cancel {job}\n", f"closeat {job} 2 f\n")
+    same("a canceled one", replies, ["ok bytes 2", "ok", "error 10 JobEnded"])
+
+
 # ---- stop
 
 def test_stops(folder):

@@ -98,6 +98,7 @@ word_request words.Incoming = looks
 word_request words.Room = looks
 word_request words.Now = looks
 word_request (words.CloseAs job name media) = concerns job
+word_request (words.CloseAt job size name media) = concerns job
 word_request words.Printers = looks
 word_request (words.Why job) = looks
 

@@ -55,7 +55,8 @@ fn allows_word(client: &Standing, table: &Table, word: &OwnWord) -> bool
         OwnWord::Wait(job)
         | OwnWord::End(job)
         | OwnWord::Stop(job)
-        | OwnWord::CloseAs { job, .. } => may_change(client, table, *job),
+        | OwnWord::CloseAs { job, .. }
+        | OwnWord::CloseAt { job, .. } => may_change(client, table, *job),
         OwnWord::Shutdown => client.is_operator(),
         _ => true,
     }

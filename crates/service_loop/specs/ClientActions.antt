@@ -18,11 +18,11 @@ use Rattle.service_texts.specs.Listings.{listed_text}
 use Rattle.service_texts.specs.MeasuredTexts.{now_text, room_text}
 use Rattle.service_texts.specs.Notices.{watch_text}
 use Rattle.service_texts.specs.QueueShown.{IsShownQueue}
-use Rattle.service_texts.specs.Shown.{has_settled, shown_job, told_job}
+use Rattle.service_texts.specs.Shown.{has_other_size, has_settled, shown_job, told_job}
 use Rattle.service_texts.specs.declared.left_jobs.LeftJob.{LeftJob}
 use Rattle.service_texts.specs.declared.tokens.Tokens.{Tokens}
 use Rattle.service_texts.specs.declared.own_words.OwnWord.{OwnWord}
-use Rattle.service_texts.specs.declared.own_words.OwnWord.TheVariants.{Job, Wait, End, Stop, Watch, WatchFrom, Shutdown, Challenge, Prove, Queue, List as Listing, Find, Incoming, Room, Now, CloseAs, Printers, Why}
+use Rattle.service_texts.specs.declared.own_words.OwnWord.TheVariants.{Job, Wait, End, Stop, Watch, WatchFrom, Shutdown, Challenge, Prove, Queue, List as Listing, Find, Incoming, Room, Now, CloseAs, CloseAt, Printers, Why}
 use Rattle.wait_causes.specs.WaitCauses.{IsWhy}
 use Rattle.wait_causes.specs.declared.cause.ServiceFacts.{ServiceFacts}
 use Rattle.client_reader.specs.declared.ask.Ask.{Ask}
@@ -38,6 +38,7 @@ use Rattle.spool_engine.specs.EngineRounds.{round_line}
 use Rattle.spool_engine.specs.EngineRuns.{CommandStep, is_round}
 use Rattle.spool_engine.specs.EngineTicks.{Ticked}
 use Rattle.spool_engine.specs.StagedSteps.{IsStagingStep, IsStagingTick, SettlesTo}
+use Rattle.spool_engine.specs.Mime.{Mime}
 use Rattle.spool_engine.specs.Script.{closing_as, closing_line}
 use Rattle.service_loop.specs.ConnectionViews.{ProofStep, named, examined}
 use Rattle.service_rules.specs.Listeners.{may_listen}
@@ -201,6 +202,7 @@ IsSaid c s (End j) text = (text ≡ codes "ok\n") ⊎ (text ≡ codes "error job
 IsSaid c s Watch text = text ≡ codes "ok\n"
 IsSaid c s Shutdown text = text ≡ codes "ok\n"
 IsSaid c s (WatchFrom number) text = (changes : NumberedChanges) × (text ≡ watch_text c s changes number)
+IsSaid c s (CloseAt j size name media) text = (has_other_size s j size ≡ true) × (text ≡ codes "error size\n")
 IsSaid c s word text = ⊥
 
 -- A word after which the client listens.
@@ -210,10 +212,16 @@ begins_to_listen Watch = true
 begins_to_listen (WatchFrom number) = true
 begins_to_listen word = false
 
+-- The close of a job, as the type that the client gave or, if it gave none, as the detected type.
+abbrev pub closing_command : Mime → State → ℕ → List ℕ → Option (List ℕ) → Command
+closing_command m s j name None = commands.Close j name
+closing_command m s j name (Some media) = commands.Apply (Close (closing_as m s j media))
+
 -- The command that a word of the service means.
 abbrev pub IsMeant : {D : Type 0} → Setting D → State → OwnWord → Command → Type 0
 IsMeant v s (Stop j) command = command ≡ commands.Apply (Cancel j)
 IsMeant v s (CloseAs j name media) command = command ≡ commands.Apply (Close (closing_as v.mime s j media))
+IsMeant v s (CloseAt j size name media) command = (has_other_size s j size ≡ false) × (command ≡ closing_command v.mime s j name media)
 IsMeant v s word command = ⊥
 
 -- The text of a close as a type, by the engine's answer: that of `close` if it was accepted, otherwise that of the answer.
@@ -221,9 +229,15 @@ abbrev pub closed_answer : Closing → State → Answer → List ℕ
 closed_answer closing s answers_of.Done = closing_line closing Done
 closed_answer closing s answer = answer_text s answer
 
+-- The text of a close as a type or, if the client gave none, that of `close`.
+abbrev pub closing_text : Mime → State → State → ℕ → Option (List ℕ) → Answer → List ℕ
+closing_text m s s' j None answer = answer_text s' answer
+closing_text m s s' j (Some media) answer = closed_answer (closing_as m s j media) s' answer
+
 -- The text of a word that means a command, over the table after the command, by the engine's answer.
 abbrev pub applied_text : {D : Type 0} → Setting D → State → State → OwnWord → Answer → List ℕ
 applied_text v s s' (CloseAs j name media) answer = closed_answer (closing_as v.mime s j media) s' answer
+applied_text v s s' (CloseAt j size name media) answer = closing_text v.mime s s' j media answer
 applied_text v s s' word answer = answer_text s' answer
 
 -- It is a command step of the engine, with this answer.

@@ -12,6 +12,7 @@ use Rattle.engine_reserve.specs.CommandRoom.{command_cost, journal_of, takes_res
 
 abbrev pub word_cost : OwnWord → Option ℕ
 word_cost (words.CloseAs job name media) = Some close_cost
+word_cost (words.CloseAt job size name media) = Some close_cost
 word_cost word = None
 
 -- Every other request may use the reserve.

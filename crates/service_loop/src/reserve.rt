@@ -40,7 +40,7 @@ fn word_cost(word: &OwnWord) -> Option<u64>
     ensures { result ≡ word_cost word.now }
 {
     match word {
-        OwnWord::CloseAs { .. } => Some(close_cost()),
+        OwnWord::CloseAs { .. } | OwnWord::CloseAt { .. } => Some(close_cost()),
         _ => None,
     }
 }

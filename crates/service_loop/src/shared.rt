@@ -12,7 +12,7 @@ ghost use Rattle.service_loop.specs.TurnMarks.{has_done, has_met_full, is_full};
 ghost use Rattle.print_rounds.specs.StageChecks.{runs};
 ghost use Rattle.service_texts.specs.Notices.{change_text, noted_since, watch_text};
 ghost use Rattle.spool_engine.specs.Script.{closing_as, closing_line};
-ghost use Rattle.service_loop.specs.ClientActions.{closed_answer};
+ghost use Rattle.service_loop.specs.ClientActions.{closed_answer, closing_command, closing_text};
 ghost use Rattle.command_lines.specs.declared.reply.Answer.{Answer as AnswerOf};
 ghost use Rattle.print_rounds.specs.RoundTicks.{count_running};
 ghost use Rattle.print_rounds.specs.Happenings.{IsTickInTurn, IsTickThat, happenings_of};
@@ -46,7 +46,7 @@ use print_rounds::{Happening, Round, RoundFault, TickLimits};
 use service_texts::{Notes, push_change};
 use spool_disk::Disk;
 use spool_engine::StagingEngine;
-use spool_types::{Event, JobId, MediaType, Phase, QueueName};
+use spool_types::{Event, FileName, JobId, MediaType, Phase, QueueName};
 use std::alloc::{AllocError, Global};
 use wait_causes::ServiceFacts;
 
@@ -199,6 +199,28 @@ impl<D: Disk, C: Children> Shared<D, C> {
         let (closing, closed) = self.engine.closing_as(job, media)?;
         let answer = self.execute(Command::Apply(Event::Close(closing)))?;
         Ok(closing_answer(answer, closed))
+    }
+
+    /// Closes a job as a document of this type or, without one, as a document of the detected type. Returns the answer.
+    pub fn close(
+        &mut self,
+        job: JobId,
+        name: FileName,
+        media: Option<MediaType>,
+    ) -> Result<Answer, AllocError>
+        ensures executed { IfOk result (λ given. (t : CommandStep D) × TakesStagingStep (setting D.device self.old.engine.mime self.old.engine.place)
+            self.old.engine.run_state (closing_command self.old.engine.mime self.old.engine.run_state.spool.state job name media) t self.new.engine.run_state
+            × (answer : AnswerOf) × (answer_text self.new.engine.run_state.spool.state answer ≡ t.text)
+            × (answer_text self.new.engine.run_state.spool.state given ≡ closing_text self.old.engine.mime self.old.engine.run_state.spool.state self.new.engine.run_state.spool.state job media answer)) }
+        ensures calls { GoesWithin D.device self.old.most self.old.engine self.new.most self.new.engine }
+    {
+        match media {
+            Some(media) => {
+                drop(name);
+                self.close_as(job, media)
+            }
+            None => self.execute(Command::Close { job, name }),
+        }
     }
 
     /// Settles the staged events, and runs one tick. No more children run after it than may at once.

@@ -12,7 +12,7 @@ use Rattle.command_lines.specs.CommandGrammar.{is_word, line_of, or_malformed, k
 use Rattle.command_lines.specs.declared.command.Command.TheVariants.{Malformed}
 use Rattle.command_lines.specs.declared.command.Kind.{Kind}
 use Rattle.command_lines.specs.declared.command.Kind.TheVariants.{Remark, Says}
-use Rattle.service_texts.specs.ServiceWords.{alone, close_word, find_word, followed, has_words, is_blank_line, list_word, own_word, queue_word, with_words}
+use Rattle.service_texts.specs.ServiceWords.{alone, close_at_word, close_word, find_word, followed, has_words, is_blank_line, list_word, own_word, queue_word, with_words}
 use Rattle.service_texts.specs.declared.own_words.OwnWord.{OwnWord}
 
 -- ## A line whose first word names no command
@@ -150,6 +150,11 @@ find_none [] = refl
 find_none (w ∷ []) = refl
 find_none (w ∷ v ∷ ws) = refl
 
+close_at_none : IsNoName (codes "closeat")
+close_at_none [] = refl
+close_at_none (w ∷ []) = refl
+close_at_none (w ∷ v ∷ ws) = refl
+
 -- The command `queue` has four words or more.
 queue_none : (words : List (List ℕ)) (w : OwnWord) → queue_word words ≡ Some w → kind_of_words (with_word (codes "queue") (Some words)) ≡ Says Malformed
 queue_none [] w e = refl
@@ -220,7 +225,10 @@ module _ (by_word : (line : List ℕ) → words_of line ≡ after_front words_of
         | inl p ↦ no_name _ _ p.0 refl refl find_none
         | inr e4 ↦ elim (tested (first_word line) (codes "close") (close_word words) _ w e4) [
           | inl p ↦ no_command by_word line _ _ p.0 refl refl (ap (λ v. kind_of_words (with_word (codes "close") v)) is ∙ close_none words w p.1)
-          | inr e5 ↦ absurd (cc)
+          | inr e5 ↦ elim (tested (first_word line) (codes "closeat") (close_at_word words) _ w e5) [
+            | inl p ↦ no_name _ _ p.0 refl refl close_at_none
+            | inr e6 ↦ absurd (cc)
+          ]
         ]
       ]
     ]

@@ -9,7 +9,7 @@ use Rattle.command_lines.specs.CommandGrammar.{is_word, job_in, queue_in}
 use Rattle.service_texts.specs.Selections.{all_jobs, selection_in}
 use Rattle.service_texts.specs.SubmissionTokens.{is_token}
 use Rattle.service_texts.specs.declared.own_words.OwnWord.{OwnWord}
-use Rattle.service_texts.specs.declared.own_words.OwnWord.TheVariants.{Job, Wait, End, Stop, Watch, WatchFrom, Shutdown, Challenge, Prove, Queue, List as Listing, Find, Incoming, Room, Now, CloseAs, Printers, Why}
+use Rattle.service_texts.specs.declared.own_words.OwnWord.TheVariants.{Job, Wait, End, Stop, Watch, WatchFrom, Shutdown, Challenge, Prove, Queue, List as Listing, Find, Incoming, Room, Now, CloseAs, CloseAt, Printers, Why}
 
 abbrev pub is_no_word : List ℕ → Bool
 is_no_word [] = true
@@ -69,9 +69,19 @@ abbrev pub close_word : List (List ℕ) → Option OwnWord
 close_word (job ∷ name ∷ media ∷ []) = close_of (job_in job) (text_in is_file_name name) (media_in media)
 close_word words = None
 
+abbrev pub close_at : Option ℕ → Option ℕ → Option (List ℕ) → Option (List ℕ) → Option OwnWord
+close_at (Some job) (Some size) (Some name) media = Some (CloseAt job size name media)
+close_at job size name media = None
+
+-- JOB SIZE NAME, or JOB SIZE NAME TYPE
+abbrev pub close_at_word : List (List ℕ) → Option OwnWord
+close_at_word (job ∷ size ∷ name ∷ []) = close_at (job_in job) (number_of size) (text_in is_file_name name) None
+close_at_word (job ∷ size ∷ name ∷ media ∷ []) = option_and_then (λ given. close_at (job_in job) (number_of size) (text_in is_file_name name) (Some given)) (media_in media)
+close_at_word words = None
+
 -- Whether further words may follow this one.
 abbrev pub has_words : List ℕ → Bool
-has_words name = is_word name (codes "queue") || (is_word name (codes "list") || (is_word name (codes "find") || is_word name (codes "close")))
+has_words name = is_word name (codes "queue") || (is_word name (codes "list") || (is_word name (codes "find") || (is_word name (codes "close") || is_word name (codes "closeat"))))
 
 abbrev pub with_words : List ℕ → List (List ℕ) → Option OwnWord
 with_words name words =
@@ -79,7 +89,8 @@ with_words name words =
     (cond (is_word name (codes "list")) (list_word words)
     (cond (is_word name (codes "find")) (find_word words)
     (cond (is_word name (codes "close")) (close_word words)
-    None)))
+    (cond (is_word name (codes "closeat")) (close_at_word words)
+    None))))
 
 -- ## The table
 

@@ -1,11 +1,11 @@
 -- The replies about one job.
-use Rattle.std.specs.Prelude.{ℕ, Bool, true, not, cond, nat_le, List, [], ◌++◌, codes, Option, None, Some, is_some}
+use Rattle.std.specs.Prelude.{ℕ, ◌==◌, Bool, true, false, ◌&&◌, not, cond, nat_le, List, [], ◌++◌, codes, Option, None, Some, is_some}
 use Rattle.std.specs.Fmt.{decimal}
 use Rattle.std.specs.List.{flat_map}
 use Rattle.client_standing.specs.ClientStanding.{ClientStanding, shows}
 use Rattle.command_lines.specs.Replies.{quoted, job_line}
 use Rattle.event_records.specs.declared.seen.JobTimes.{JobTimes}
-use Rattle.spool_types.specs.Phases.{has_ended, hold_of, job_state, job_reason}
+use Rattle.spool_types.specs.Phases.{has_ended, hold_of, is_incoming, job_state, job_reason}
 use Rattle.spool_types.specs.State.{State, Job, job_at}
 use Rattle.spool_types.specs.declared.phase.Hold.{Hold}
 use Rattle.spool_types.specs.declared.phase.Hold.TheVariants.{Free, Indefinite, Until}
@@ -145,3 +145,13 @@ is_over (Some r) = has_ended r.phase
 
 abbrev pub has_settled : State → ℕ → Bool
 has_settled s j = is_over (job_at s j)
+
+-- ## The size of a document
+
+abbrev pub is_of_other_size : ℕ → Option Job → Bool
+is_of_other_size size None = false
+is_of_other_size size (Some r) = is_incoming r.phase && not (r.size == size)
+
+-- The job is incoming, and its document has another size.
+abbrev pub has_other_size : State → ℕ → ℕ → Bool
+has_other_size s j size = is_of_other_size size (job_at s j)

@@ -3,7 +3,7 @@ ghost use Rattle.std.specs.Prelude.{◌≡◌, ◌++◌, IfOk, OnOk, option_copi
 ghost use Rattle.spool_types.specs.State.{job_of};
 ghost use Rattle.std.specs.Option.{option_map};
 ghost use Rattle.event_records.specs.SeenTimes.{job_times};
-ghost use Rattle.service_texts.specs.Shown.{by_text, first_times, has_settled, hold_text, job_counts, job_fields, job_marks, job_names, job_progress, job_ranks, job_request, job_row, job_times_text, job_wishes, last_times, media_text, phase_text, seen, seen_text, shown_job, shown_line, shown_lines, state_and_phase_text, state_text, time_line, time_word, told_job};
+ghost use Rattle.service_texts.specs.Shown.{by_text, first_times, has_other_size, has_settled, hold_text, job_counts, job_fields, job_marks, job_names, job_progress, job_ranks, job_request, job_row, job_times_text, job_wishes, last_times, media_text, phase_text, seen, seen_text, shown_job, shown_line, shown_lines, state_and_phase_text, state_text, time_line, time_word, told_job};
 
 use client_standing::Standing;
 use command_lines::{push_job_as, push_quoted};
@@ -59,6 +59,16 @@ pub fn has_settled(table: &Table, id: JobId) -> bool
 {
     let ended = table.job(id).map(|row| row.job.phase.has_ended());
     ended_jobs::has_settled(ended)
+}
+
+/// Whether a job is incoming and its document has another size than this.
+pub fn has_other_size(table: &Table, id: JobId, size: u64) -> bool
+    ensures { result ≡ has_other_size table.now.state id size }
+{
+    match table.job(id) {
+        Some(row) => row.job.phase.is_incoming() && u64::from(row.job.size) != size,
+        None => false,
+    }
 }
 
 /// Appends the fields and times of a job at the moment `now`. If `hidden`, its user, its title and its options are shown as empty texts. If

@@ -15,12 +15,13 @@
 //! | `printers` | the queues as `queues` lists them, but only with what lasts of attempts that have ended, then `ok K` |
 //! | `why N` | `ok why` and why the job does not print; `error job` if it does not exist |
 //! | `close N NAME TYPE` | the reply to `close N NAME`; the job has this media type |
+//! | `closeat N SIZE NAME [TYPE]` | the reply to `close N NAME [TYPE]`; `error size` if the job is incoming and its document has another size |
 //! | `watch` | from then on a line for each job and each queue that changes |
 //! | `watch N` | what changed after the change of this number, and from then on as `watch` |
 //! | `i-am`, `made` | made by the service: a client proves who it is |
 //! | `shutdown` | made by the service, which accepts no client any more and ends |
 //!
-//! The words after `queue`, `list`, `find` and `close` may be quoted. A line with anything after its last word is none of these. The
+//! The words after `queue`, `list`, `find`, `close` and `closeat` may be quoted. A line with anything after its last word is none of these. The
 //! command `queue` has four words or more, and the command `close` two.
 //!
 //! A client that may not see a job is shown empty texts for its user, its title and its options (`client_standing`). It finds no job by a user
@@ -33,7 +34,7 @@
 //!   finds each such line malformed, so no command of the engine is lost. A [`Selection`] has each key at most once (`Selections`).
 //! - [`shown_job`], [`job_told`]: the text of one job, or `error job` exactly if it does not exist (`Shown`: `shown_job`, `told_job`). The time
 //!   of a state that the job has reached is that which was seen, or `unknown` (`event_records`). A state that it has not reached has no line.
-//!   [`has_settled`]: whether a `wait` is over. [`push_shown_line`], [`push_shown_jobs`]: lines of the listing (`shown_line`).
+//!   [`has_settled`]: whether a `wait` is over. [`has_other_size`]: whether `closeat` closes nothing. [`push_shown_line`], [`push_shown_jobs`]: lines of the listing (`shown_line`).
 //! - [`shown_queue`]: the text of one queue, or `error queue` exactly if it does not exist (`QueueShown`, `IsShownQueue`). It counts all
 //!   waiting jobs of the queue, and those of the first 1,000 in the order of printing that are held (`AreCounts`).
 //! - [`listed_text`]: a piece of the listing (`Listings`, `listed_text`). [`pieces_make_the_listing`]: the pieces, each from the number that
@@ -79,7 +80,9 @@ mod selection;
 mod token;
 mod tokens;
 
-pub use job_texts::{has_settled, job_told, push_shown_jobs, push_shown_line, shown_job};
+pub use job_texts::{
+    has_other_size, has_settled, job_told, push_shown_jobs, push_shown_line, shown_job,
+};
 pub use laws::{own_words_are_no_commands, pieces_make_the_listing, shown_texts_are_read_back};
 pub use left_jobs::{LeftJob, LeftJobs};
 pub use listing::listed_text;

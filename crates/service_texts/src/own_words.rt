@@ -1,8 +1,11 @@
 //! The words of the service.
 ghost use Rattle.std.specs.Prelude.{◌≡◌, IfOk, map};
 ghost use Rattle.line_words.specs.WordFields.{bytes_of};
+ghost use Rattle.command_lines.specs.CommandGrammar.{job_in};
+ghost use Rattle.command_lines.specs.CommandNumbers.{number_of};
 ghost use Rattle.command_lines.specs.CommandWords.{words_of};
-ghost use Rattle.service_texts.specs.ServiceWords.{alone, close_word, find_word, followed, has_words, is_blank_line, list_word, lone_job, lone_number, own_word, queue_word, with_words};
+ghost use Rattle.spool_types.specs.Values.{is_file_name, text_in};
+ghost use Rattle.service_texts.specs.ServiceWords.{alone, close_at, close_at_word, close_word, find_word, followed, has_words, is_blank_line, list_word, lone_job, lone_number, own_word, queue_word, with_words};
 
 use crate::selection::{Selection, selection_in};
 use crate::token::TokenText;
@@ -49,6 +52,13 @@ pub enum OwnWord {
         job: JobId,
         name: FileName,
         media: MediaType,
+    },
+    /// Close this job if its document has this size. The document has this name and, if one is given, this media type.
+    CloseAt {
+        job: JobId,
+        size: u64,
+        name: FileName,
+        media: Option<MediaType>,
     },
     /// Show all queues.
     Printers,
@@ -141,6 +151,7 @@ fn has_words(name: &[u8]) -> bool
         || name == b"list".as_slice()
         || name == b"find".as_slice()
         || name == b"close".as_slice()
+        || name == b"closeat".as_slice()
 }
 
 // The request of a word and further words.
@@ -158,6 +169,9 @@ fn with_words(alloc: Global, name: &[u8], words: &[Word<'_>]) -> Result<Option<O
     }
     if name == b"close".as_slice() {
         return close_word(alloc, words);
+    }
+    if name == b"closeat".as_slice() {
+        return close_at_word(alloc, words);
     }
     Ok(None)
 }
@@ -203,6 +217,44 @@ fn close_word(alloc: Global, words: &[Word<'_>]) -> Result<Option<OwnWord>, Allo
     let media = MediaType::from_word(alloc, media.bytes())?;
     match (job_number(job.bytes()), name, media) {
         (Some(job), Some(name), Some(media)) => Ok(Some(OwnWord::CloseAs { job, name, media })),
+        _ => Ok(None),
+    }
+}
+
+// `closeat JOB SIZE NAME [TYPE]`
+fn close_at_word(alloc: Global, words: &[Word<'_>]) -> Result<Option<OwnWord>, AllocError>
+    ensures { IfOk result (λ word. word ≡ close_at_word (map bytes_of words.now)) }
+{
+    match words {
+        [job, size, name] => close_at(alloc, job.bytes(), size.bytes(), name.bytes(), None),
+        [job, size, name, media] => {
+            let Some(media) = MediaType::from_word(alloc, media.bytes())? else {
+                return Ok(None);
+            };
+            close_at(alloc, job.bytes(), size.bytes(), name.bytes(), Some(media))
+        }
+        _ => Ok(None),
+    }
+}
+
+// The request to close a job whose document has this size, from the words for both and for the document's name.
+fn close_at(
+    alloc: Global,
+    job: &[u8],
+    size: &[u8],
+    name: &[u8],
+    media: Option<MediaType>,
+) -> Result<Option<OwnWord>, AllocError>
+    ensures { IfOk result (λ word. word ≡ close_at (job_in job.now) (number_of size.now) (text_in is_file_name name.now) media) }
+{
+    let name = FileName::from_word(alloc, name)?;
+    match (job_number(job), number_of(size), name) {
+        (Some(job), Some(size), Some(name)) => Ok(Some(OwnWord::CloseAt {
+            job,
+            size,
+            name,
+            media,
+        })),
         _ => Ok(None),
     }
 }

@@ -15,7 +15,7 @@ use Rattle.service_texts.specs.MeasuredTexts.{now_text, room_text}
 use Rattle.service_texts.specs.QueueShown.{queue_fields}
 use Rattle.service_texts.specs.Selections.{all_jobs}
 use Rattle.service_texts.specs.ServiceWords.{own_word}
-use Rattle.service_texts.specs.Shown.{one_shown, shown_line}
+use Rattle.service_texts.specs.Shown.{has_other_size, one_shown, shown_line}
 use Rattle.service_texts.specs.SubmissionTokens.{token_of}
 use Rattle.service_texts.specs.declared.own_words.OwnWord.TheVariants as words
 use Rattle.wait_causes.specs.WaitCauses.{why_line}
@@ -37,6 +37,11 @@ NumberRows = map own_word (text "job 7" ∷ text "wait 7" ∷ text "end 7" ∷ t
 abbrev pub NameRows : Type 0
 NameRows = map own_word (text "queue lab" ∷ text "queue \"lab\"" ∷ text "queue lab s:/ a/b abort-job" ∷ text "queue l!" ∷ text "close 7 \"a b\" Text/PLAIN" ∷ text "close 7 a" ∷ text "close 7 a b" ∷ [])
     ≡ Some (words.Queue (codes "lab")) ∷ Some (words.Queue (codes "lab")) ∷ None ∷ None ∷ Some (words.CloseAs 7 (codes "a b") (codes "text/plain")) ∷ None ∷ None ∷ []
+
+-- The size has 1 to 13 digits, and the type may be missing.
+abbrev pub CloseAtRows : Type 0
+CloseAtRows = map own_word (text "closeat 7 3 \"a b\"" ∷ text "closeat 7 0 a Text/PLAIN" ∷ text "closeat 7 9999999999999 a" ∷ text "closeat 7 10000000000000 a" ∷ text "closeat 7 -1 a" ∷ text "closeat 0 3 a" ∷ text "closeat 7 3" ∷ text "closeat 7 3 a b" ∷ text "closeat 7 3 a a/b c" ∷ text "closeat" ∷ [])
+    ≡ Some (words.CloseAt 7 3 (codes "a b") None) ∷ Some (words.CloseAt 7 0 (codes "a") (Some (codes "text/plain"))) ∷ Some (words.CloseAt 7 9999999999999 (codes "a") None) ∷ None ∷ None ∷ None ∷ None ∷ None ∷ None ∷ None ∷ []
 
 -- Each key at most once, in any order.
 abbrev pub ListRows : Type 0
@@ -122,6 +127,16 @@ arriving = record nothing { jobs = finite.insert finite.empty 7 (record busy { m
 
 abbrev pub LeftRows : Type 0
 LeftRows = incoming_text 61999 arriving (record { job = 5; since = 0 } ∷ record { job = 7; since = 1000 } ∷ []) ≡ text "incoming 7 60|ok 1|"
+
+-- ## The size of a document
+
+abbrev pub printing : State
+printing = record nothing { jobs = finite.insert finite.empty 7 busy }
+
+-- A job that is incoming with 3 bytes, one that prints, and none.
+abbrev pub SizeRows : Type 0
+SizeRows = has_other_size arriving 7 3 ∷ has_other_size arriving 7 2 ∷ has_other_size arriving 7 4 ∷ has_other_size printing 7 4 ∷ has_other_size nothing 7 4 ∷ []
+    ≡ false ∷ true ∷ true ∷ false ∷ false ∷ []
 
 -- ## What is measured
 

@@ -184,6 +184,7 @@ pub fn service_word_examples()
     ensures lone { service.LoneRows }
     ensures number { service.NumberRows }
     ensures name { service.NameRows }
+    ensures close_at { service.CloseAtRows }
     ensures list { service.ListRows }
     ensures find { service.FindRows }
     ensures token { service.TokenRows }
@@ -201,5 +202,6 @@ pub fn service_reply_examples()
     ensures piece { service.PieceRows }
     ensures piece_line { service.PieceLineRows }
     ensures left { service.LeftRows }
+    ensures size { service.SizeRows }
     ensures measured { service.MeasuredRows }
 {}

@@ -141,6 +141,12 @@ impl<L: Connection> Client<L> {
             OwnWord::WatchFrom(number) => self.watch_after(shared, number, &turn.listening)?,
             OwnWord::Stop(job) => self.stop_job(shared, job)?,
             OwnWord::CloseAs { job, name, media } => self.close_as(shared, job, name, media)?,
+            OwnWord::CloseAt {
+                job,
+                size,
+                name,
+                media,
+            } => self.close_at(shared, job, size, name, media)?,
             OwnWord::End(job) => {
                 let ends = shared.endings.ask(&shared.engine, job)?;
                 self.add(if ends { DONE } else { NO_JOB })?;

@@ -16,10 +16,13 @@ use crate::connection::Connection;
 use crate::shared::Shared;
 use child_pipeline::Children;
 use service_rules::bounds::LONGEST_DOCUMENT;
-use service_texts::push_room;
+use service_texts::{has_other_size, push_room};
 use spool_disk::Disk;
 use spool_types::{FileName, JobId, MediaType};
 use std::alloc::AllocError;
+
+// The reply to `closeat` if the job is incoming and its document has another size.
+const OTHER_SIZE: &[u8] = b"error size\n";
 
 impl<L: Connection> Client<L> {
     // Cancels a job, and has its running child end.
@@ -57,6 +60,33 @@ impl<L: Connection> Client<L> {
     {
         drop(name);
         let answer = shared.close_as(job, media)?;
+        self.add_answer(shared.engine.table(), &answer)?;
+        Ok(())
+    }
+
+    // Closes a job if its document has this size.
+    pub(super) fn close_at<D: Disk, C: Children>(
+        &mut self,
+        shared: &mut Shared<D, C>,
+        job: JobId,
+        size: u64,
+        name: FileName,
+        media: Option<MediaType>,
+    ) -> Result<(), ClientFault>
+        requires waits { self.old.waits ≡ None }
+        requires role { is_allowed self.old.standing shared.old.engine.run_state.spool.state (Ask.Own (OwnWord.CloseAt job size name media)) ≡ true }
+        ensures done { OnOk result (IsAnswered D.device L.view shared.old.engine self.old (Ask.Own (OwnWord.CloseAt job size name media)) shared.new.engine self.new) }
+        ensures marked { IsMarked L.view self.old → IsMarked L.view self.new }
+        ensures kept { self.new ≡ record self.old { replies = self.new.replies } }
+        ensures calls { GoesWithin D.device shared.old.most shared.old.engine shared.new.most shared.new.engine }
+    {
+        if has_other_size(shared.engine.table(), job, size) {
+            drop(name);
+            drop(media);
+            self.add(OTHER_SIZE)?;
+            return Ok(());
+        }
+        let answer = shared.close(job, name, media)?;
         self.add_answer(shared.engine.table(), &answer)?;
         Ok(())
     }
