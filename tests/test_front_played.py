@@ -2,11 +2,13 @@
 
 The decisions after a lost reply are proved over values; here real connections are lost.
 """
+import os
+import subprocess
 import time
 
 import pytest
 
-from harness.checks import holds, same
+from harness.checks import LONGEST, holds, same
 from harness.front import Front, Played
 
 pytestmark = pytest.mark.needs("spool_front")
@@ -23,11 +25,30 @@ def shown(size, state="4 job-incoming", media="", token="TOKEN"):
 
 
 LISTED = 'job 5 q 4 job-incoming "ann" 0 0 "t"\nok 1\n'
-CLOSED = ("close 5 ", "ok type application/octet-stream stages 1\n")
-CREATED, SENT, CANCELED = ('create "q" ', "ok job 5\n"), ("send 5 3", "ok bytes 3\n"), ("cancel 5", "ok\n")
+TYPE = "ok type application/octet-stream stages 1\n"
+CREATED, CANCELED = ('create "q" ', "ok job 5\n"), ("cancel 5", "ok\n")
+
+# The piece and the close that is sent together with it. An empty reply is not waited for: the close comes although the piece has no reply yet.
+# The service refuses a close if the job has another size, and has no other effect of it.
+PIECE, CLOSE_AT = ("send 5 3", ""), 'closeat 5 3 "doc"'
+SENT = [PIECE, (CLOSE_AT, f"ok bytes 3\n{TYPE}")]
+OTHER_SIZE = "error size\n"
+
+# An older service, or one that refuses only the close: the job is closed by a command of its own.
+CLOSED = ("close 5 ", TYPE)
+
+
+def piece(reply, close=OTHER_SIZE):
+    """The steps of a connection in which the piece and the close have these replies. None closes the connection before the reply."""
+    if reply is None:
+        return [PIECE, (CLOSE_AT, None)]
+    return [PIECE, (CLOSE_AT, reply + close)] if close is not None else [("send 5 3", reply), (CLOSE_AT, None)]
+
+
+OPEN = piece("ok bytes 3\n", "error syntax\n")
 
 # The steps of a connection that is lost at each command.
-NOT_CREATED, NOT_SENT, NOT_CLOSED = [('create "q" ', None)], [CREATED, ("send 5 3", None)], [CREATED, SENT, ("close 5 ", None)]
+NOT_CREATED, NOT_SENT, NOT_CLOSED = [('create "q" ', None)], [CREATED, *piece(None)], [CREATED, *OPEN, ("close 5 ", None)]
 
 # Others' jobs, and one that has ended.
 ROWS = 'job 5 q 4 job-incoming "ann" 0 0 "t"\njob 6 q 4 job-incoming "bob" 0 0 "t"\njob 7 q 9 job-completed-successfully "ann" 0 0 "t"\nok 3\n'
@@ -47,26 +68,45 @@ FULL = "the spool is full (see spool_service(8), A full spool)"
 
 # The steps of each connection, the status and a part of the output.
 SUBMISSIONS = {
-    "accepted": ([[CREATED, SENT, CLOSED]], 0, "request id is q-5 (1 file(s))"),
-    "unprintable": ([[CREATED, SENT, ("close 5 ", "ok type a/b unprintable\n")]], 4, "job 5"),
+    "accepted": ([[CREATED, *SENT]], 0, "request id is q-5 (1 file(s))"),
+    "unprintable": ([[CREATED, *piece("ok bytes 3\n", "ok type a/b unprintable\n")]], 4, "job 5"),
     "create refused": ([[('create "q" ', "error 1 NoQueue\n")]], 1, f"spool: cannot print on q: {NO_QUEUE}\n"),
-    "send refused": ([[CREATED, ("send 5 3", "error 7 TooLong\n"), CANCELED]], 1, f"spool: cannot print on q: {TOO_LONG}; job 5 was canceled\n"),
-    "close refused": ([[CREATED, SENT, ("close 5 ", "error 5 NoJob\n"), ("cancel 5", "error 5 NoJob\n")]], 1, f"{NO_JOB}; job 5 is not printed"),
-    "another size": ([[CREATED, ("send 5 3", "ok bytes 9\n"), CANCELED]], 1, "job 5 was canceled"),
-    "put off": ([[('create "q" ', "error full\n"), CREATED, ("send 5 3", "error memory\n"), SENT, ("close 5 ", "error full\n"), CLOSED]], 0, "q-5"),
-    "full for good": ([[CREATED, *[("send 5 3", "error full\n")] * 21, CANCELED]], 1, f"{FULL}; job 5 was canceled"),
+    # The reply to the piece is reported, not that to the close.
+    "send refused": ([[CREATED, *piece("error 7 TooLong\n"), CANCELED]], 1, f"spool: cannot print on q: {TOO_LONG}; job 5 was canceled\n"),
+    "another size": ([[CREATED, *piece("ok bytes 9\n"), CANCELED]], 1, "job 5 was canceled"),
+    "put off": ([[('create "q" ', "error full\n"), CREATED, *piece("error memory\n"), *piece("ok bytes 3\n", "error full\n"), ("close 5 ", "error full\n"), CLOSED]], 0, "q-5"),
+    "full for good": ([[CREATED, *piece("error full\n") * 21, CANCELED]], 1, f"{FULL}; job 5 was canceled"),
     # It was created: the front end continues with the job that has the token.
-    "create lost": ([NOT_CREATED, [("jobs", LISTED), *asked(shown(0)), SENT, CLOSED]], 0, "q-5"),
-    "create not done": ([NOT_CREATED, [("jobs", "ok 0\n"), CREATED, SENT, CLOSED]], 0, "q-5"),
+    "create lost": ([NOT_CREATED, [("jobs", LISTED), *asked(shown(0)), *SENT]], 0, "q-5"),
+    "create not done": ([NOT_CREATED, [("jobs", "ok 0\n"), CREATED, *SENT]], 0, "q-5"),
     # A listing that fails does not show that the job does not exist: it is requested again.
-    "no listing": ([NOT_CREATED, [("jobs", "error busy\n")], [("jobs", "error memory\n"), ("jobs", LISTED), *asked(shown(0)), SENT, CLOSED]], 0, "q-5"),
+    "no listing": ([NOT_CREATED, [("jobs", "error busy\n")], [("jobs", "error memory\n"), ("jobs", LISTED), *asked(shown(0)), *SENT]], 0, "q-5"),
     # A job with another token, a job of another user and a job that has ended are not its own.
-    "foreign jobs": ([NOT_CREATED, [("jobs", ROWS), *asked(shown(0, token="0" * 32)), CREATED, SENT, CLOSED]], 0, "q-5"),
-    "send lost, not done": ([NOT_SENT, [*asked(shown(0)), SENT, CLOSED]], 0, "q-5"),
-    "send lost, done": ([NOT_SENT, [*asked(shown(3)), CLOSED]], 0, "q-5"),
-    "send lost, another size": ([NOT_SENT, [*asked(shown(2)), CANCELED]], 1, "job 5 was canceled"),
-    "send lost, no job": ([NOT_SENT, asked("error job\n")], 1, ENDED),
-    "send lost, canceled": ([NOT_SENT, asked(shown(0, "7 canceled"))], 1, ENDED),
+    "foreign jobs": ([NOT_CREATED, [("jobs", ROWS), *asked(shown(0, token="0" * 32)), CREATED, *SENT]], 0, "q-5"),
+    # The job says which of the commands were executed.
+    "lost, nothing done": ([NOT_SENT, [*asked(shown(0)), *SENT]], 0, "q-5"),
+    "lost, sent": ([NOT_SENT, [*asked(shown(3)), CLOSED]], 0, "q-5"),
+    "lost, closed": ([NOT_SENT, asked(shown(3, "3 none", "a/b"))], 0, "q-5"),
+    "lost, printed": ([NOT_SENT, asked(shown(3, "9 job-completed-successfully", "a/b"))], 0, "q-5"),
+    "lost, unprintable": ([NOT_SENT, asked(shown(3, "8 no-filter", "a/b"))], 4, "job 5"),
+    "lost, another size": ([NOT_SENT, [*asked(shown(2)), CANCELED]], 1, "job 5 was canceled"),
+    # It was perhaps closed before it was removed.
+    "lost, no job": ([NOT_SENT, asked("error job\n")], 3, "cannot determine whether job 5 will be printed"),
+    "lost, canceled": ([NOT_SENT, asked(shown(0, "7 canceled"))], 1, ENDED),
+    # The reply to the piece has come, and that to the close not.
+    "lost after the piece, sent": ([[CREATED, *piece("ok bytes 3\n", None)], [*asked(shown(3)), CLOSED]], 0, "q-5"),
+    "lost after the piece, closed": ([[CREATED, *piece("ok bytes 3\n", None)], asked(shown(3, "3 none", "a/b"))], 0, "q-5"),
+    "lost after a refusal, nothing done": ([[CREATED, *piece("error full\n", None)], [*asked(shown(0)), *SENT]], 0, "q-5"),
+    # After `error disk` the piece or the close may have been executed, so the front end asks again on a new connection.
+    "dead at the piece": ([[CREATED, *piece("error disk\n", "error dead\n")], [*asked(shown(0)), *SENT]], 0, "q-5"),
+    "dead at the close, closed": ([[CREATED, *piece("ok bytes 3\n", "error disk\n")], asked(shown(3, "3 none", "a/b"))], 0, "q-5"),
+    "dead at the close, open": ([[CREATED, *piece("ok bytes 3\n", "error disk\n")], [*asked(shown(3)), CLOSED]], 0, "q-5"),
+    # The service refuses only the close. It is sent once more by itself, and its reply decides.
+    "older": ([[CREATED, *OPEN, CLOSED]], 0, "request id is q-5 (1 file(s))"),
+    "older, unprintable": ([[CREATED, *OPEN, ("close 5 ", "ok type a/b unprintable\n")]], 4, "job 5"),
+    "close put off": ([[CREATED, *piece("ok bytes 3\n", "error full\n"), CLOSED]], 0, "q-5"),
+    "size refused": ([[CREATED, *piece("ok bytes 3\n"), CLOSED]], 0, "q-5"),
+    "close refused": ([[CREATED, *piece("ok bytes 3\n", "error 5 NoJob\n"), ("close 5 ", "error 5 NoJob\n"), ("cancel 5", "error 5 NoJob\n")]], 1, f"{NO_JOB}; job 5 is not printed"),
     "close lost, not done": ([NOT_CLOSED, [*asked(shown(3)), CLOSED]], 0, "q-5"),
     "close lost, done": ([NOT_CLOSED, asked(shown(3, "3 none", "a/b"))], 0, "q-5"),
     "close lost, printed": ([NOT_CLOSED, asked(shown(3, "9 job-completed-successfully", "a/b"))], 0, "q-5"),
@@ -74,17 +114,16 @@ SUBMISSIONS = {
     "close lost, canceled": ([NOT_CLOSED, asked(shown(3, "7 canceled"))], 1, ENDED),
     "close lost, no job": ([NOT_CLOSED, asked("error job\n")], 3, "job 5"),
     # Somebody ended the job, or an earlier close was served: `job` shows which.
-    "closed before": ([[CREATED, SENT, ("close 5 ", "error 6 NotIncoming\n"), *asked(shown(3, "3 none", "a/b"))]], 0, "q-5"),
-    "canceled before": ([[CREATED, SENT, ("close 5 ", "error 6 NotIncoming\n"), *asked(shown(3, "7 canceled"))]], 1, "job 5"),
-    # After `error disk` a close may have been executed, so the front end asks again on a new connection.
-    "dead at close": ([[CREATED, SENT, ("close 5 ", "error disk\n")], asked(shown(3, "3 none", "a/b"))], 0, "q-5"),
+    "closed before": ([[CREATED, *piece("ok bytes 3\n", "error 6 NotIncoming\n"), ("close 5 ", "error 6 NotIncoming\n"), *asked(shown(3, "3 none", "a/b"))]], 0, "q-5"),
+    "canceled before": ([[CREATED, *piece("ok bytes 3\n", "error 6 NotIncoming\n"), ("close 5 ", "error 6 NotIncoming\n"), *asked(shown(3, "7 canceled"))]], 1, "job 5"),
+    "dead at close": ([[CREATED, *OPEN, ("close 5 ", "error disk\n")], asked(shown(3, "3 none", "a/b"))], 0, "q-5"),
 }
 
 # The same if the service is gone for longer than the front end waits. A dead spool replies to queries, and changes nothing.
 GIVEN_UP = {
-    "dead for good": ([[CREATED, SENT, ("close 5 ", "error dead\n")], *[[*asked(shown(3)), ("close 5 ", "error dead\n")]] * 10], 3, "job 5"),
+    "dead for good": ([[CREATED, *piece("ok bytes 3\n", "error dead\n")], *[[*asked(shown(3)), ("close 5 ", "error dead\n")]] * 10], 3, "job 5"),
     "gone at close": ([NOT_CLOSED], 3, "job 5"),
-    "gone at send": ([NOT_SENT], 1, "cannot reach the service"),
+    "gone at send": ([NOT_SENT], 3, "job 5"),
 }
 
 
@@ -117,9 +156,8 @@ FIRST, SECOND = 65_536, 65_535
 LONG = bytes(range(256)) * 512
 SENDS_FIRST, SENDS_SECOND = f"send 5 {FIRST}", f"send 5 {SECOND}"
 
-# An empty reply is not waited for: the second command comes although the first one has no reply yet.
 BOTH = [(SENDS_FIRST, ""), (SENDS_SECOND, f"ok bytes {FIRST}\nok bytes {FIRST + SECOND}\n")]
-REST = [("send 5 1", f"ok bytes {FIRST + SECOND + 1}\n"), CLOSED]
+REST = [("send 5 1", ""), (f'closeat 5 {FIRST + SECOND + 1} "doc"', f"ok bytes {FIRST + SECOND + 1}\n{TYPE}")]
 ACCEPTED, GIVES_UP = "request id is q-5", "job 5 was canceled"
 
 # The steps of each connection after the creation of the job, the status and a part of the output, for 131,072 bytes: a piece that takes two
@@ -153,13 +191,112 @@ def test_long_submission(folder, connections, status, output):
         same("the bytes", service.bytes, LONG)
 
 
+# A document of one long piece: two commands and the close are sent together.
+WHOLE = bytes(range(256)) * 511 + bytes(255)
+AT_END = f'closeat 5 {FIRST + SECOND} "doc"'
+
+
+def whole(first, second, close):
+    """The steps in which the commands for the piece have these replies."""
+    return [(SENDS_FIRST, ""), (SENDS_SECOND, ""), (AT_END, first + second + close)]
+
+
+ALL = whole(f"ok bytes {FIRST}\n", f"ok bytes {FIRST + SECOND}\n", TYPE)
+HALF = [(SENDS_SECOND, ""), (AT_END, f"ok bytes {FIRST + SECOND}\n{TYPE}")]
+
+WHOLE_SUBMISSIONS = {
+    "all": ([ALL], 0, ACCEPTED),
+    "second put off": ([[*whole(f"ok bytes {FIRST}\n", "error full\n", OTHER_SIZE), *HALF]], 0, ACCEPTED),
+    "first put off": ([[*whole("error full\n", f"ok bytes {SECOND}\n", OTHER_SIZE), CANCELED]], 1, GIVES_UP),
+    "both put off": ([[*whole("error full\n", "error full\n", OTHER_SIZE), *ALL]], 0, ACCEPTED),
+    "both refused": ([[*whole("error 7 TooLong\n", "error 7 TooLong\n", OTHER_SIZE), CANCELED]], 1, f"{TOO_LONG}; {GIVES_UP}"),
+    "close put off": ([[*whole(f"ok bytes {FIRST}\n", f"ok bytes {FIRST + SECOND}\n", "error full\n"), CLOSED]], 0, ACCEPTED),
+    "older": ([[*whole(f"ok bytes {FIRST}\n", f"ok bytes {FIRST + SECOND}\n", "error syntax\n"), CLOSED]], 0, ACCEPTED),
+    "closed": ([[(SENDS_FIRST, ""), (SENDS_SECOND, ""), (AT_END, None)], asked(shown(FIRST + SECOND, "3 none", "a/b"))], 0, ACCEPTED),
+    "open": ([[(SENDS_FIRST, ""), (SENDS_SECOND, ""), (AT_END, None)], [*asked(shown(FIRST + SECOND)), CLOSED]], 0, ACCEPTED),
+    "half": ([[(SENDS_FIRST, ""), (SENDS_SECOND, ""), (AT_END, None)], [*asked(shown(FIRST)), *HALF]], 0, ACCEPTED),
+    "none": ([[(SENDS_FIRST, ""), (SENDS_SECOND, ""), (AT_END, None)], [*asked(shown(0)), *ALL]], 0, ACCEPTED),
+    "other half": ([[(SENDS_FIRST, ""), (SENDS_SECOND, ""), (AT_END, None)], [*asked(shown(SECOND)), CANCELED]], 1, GIVES_UP),
+}
+
+
+@pytest.mark.parametrize("connections, status, output", WHOLE_SUBMISSIONS.values(), ids=WHOLE_SUBMISSIONS)
+def test_whole_submission(folder, connections, status, output):
+    first, *others = connections
+    service = played(folder, [[CREATED, *first], *others], status, output, document=WHOLE)
+    if connections == [ALL]:
+        same("the bytes", service.bytes, WHOLE)
+
+
+@pytest.mark.parametrize("length", [1, 65_535, 65_536, 65_537, 131_070, 131_071, 131_072, 131_073, 262_142, 262_143])
+def test_last_piece(folder, length):
+    """The last piece is found and closed with, from a file and from standard input in parts."""
+    steps, left, size = [CREATED], length, 0
+    while left:
+        piece_length = min(left, FIRST + SECOND)
+        parts = [min(piece_length, FIRST), piece_length - FIRST] if FIRST < piece_length else [piece_length]
+        replies = ""
+        for part in parts:
+            steps.append((f"send 5 {part}\n", ""))
+            size += part
+            replies += f"ok bytes {size}\n"
+        left -= piece_length
+        if left:
+            steps[-1] = (steps[-1][0], replies)
+        else:
+            steps.append((f"closeat 5 {length} ", replies + TYPE))
+    document = (bytes(range(251)) * (length // 251 + 1))[:length]
+    same("the bytes of a file", played(folder, [steps], 0, ACCEPTED, document=document).bytes, document)
+    for cut in (1, length // 2, length - 1):
+        service = Played(folder, [steps])
+        child = subprocess.Popen(Front(folder, 3).command(["spool", "submit", "q", "-"]), stdin=subprocess.PIPE, stdout=subprocess.PIPE, stderr=subprocess.PIPE, env=Front(folder, 3).environment)
+        for part in (document[:cut], document[cut:]):
+            child.stdin.write(part)
+            child.stdin.flush()
+            time.sleep(0.05)
+        output, errors = child.communicate(timeout=LONGEST)
+        service.end()
+        same(f"the status, with {errors!r}", (child.returncode, output), (0, b"request id is q-5 (1 file(s))\n"))
+        same("the bytes of standard input", service.bytes, document)
+
+
+def test_empty_document(folder):
+    """A document without a byte has no piece, so the job is closed by itself."""
+    played(folder, [[CREATED, CLOSED]], 0, ACCEPTED, document=b"")
+
+
+def test_unreadable_after_a_piece(folder):
+    """A document that cannot be read after a whole piece is not closed: its job is canceled. A folder cannot be read at all."""
+    os.mkdir(folder.at("folder"))
+    service = Played(folder, [[CREATED, CANCELED]])
+    output = Front(folder, 3).fails("spool", "submit", "q", folder.at("folder"))
+    service.end()
+    holds(f"printed {output!r}", "cannot read the document; job 5 was canceled" in output)
+
+
+def test_typed(folder):
+    """The close that is sent with the last piece has the name and the type, and a refusal of it is not reported."""
+    for close, more in ((TYPE, []), ("error syntax\n", [('close 5 "doc" "a/b"', TYPE)])):
+        steps = [CREATED, PIECE, ('closeat 5 3 "doc" "a/b"', f"ok bytes 3\n{close}"), *more]
+        same("errors", played(folder, [steps], 0, ACCEPTED, words=["--type", "a/b"]).errors, "")
+
+
+def test_one_write(folder):
+    """A short document and its close are sent together, before a reply to either."""
+    service = Played(folder, [[CREATED, *SENT]])
+    folder.write("doc", "abc")
+    Front(folder, 3).says("spool", "submit", "q", folder.at("doc"))
+    service.end()
+    same("the commands", service.heard[1:], ["send 5 3", 'closeat 5 3 "doc"'])
+
+
 def test_a_mebibyte(folder):
     """A submission waits for fewer replies than it sends pieces."""
     steps, size = [CREATED], 0
     for _ in range(8):
         steps += [(SENDS_FIRST, ""), (SENDS_SECOND, f"ok bytes {size + FIRST}\nok bytes {size + FIRST + SECOND}\n")]
         size += FIRST + SECOND
-    steps += [("send 5 8", "ok bytes 1048576\n"), CLOSED]
+    steps += [("send 5 8", ""), ('closeat 5 1048576 "doc"', f"ok bytes 1048576\n{TYPE}")]
     document = bytes(range(256)) * 4096
     same("the bytes", played(folder, [steps], 0, ACCEPTED, document=document).bytes, document)
     sends = [wanted for wanted, _ in steps if wanted.startswith("send")]
@@ -196,7 +333,8 @@ def moments_played(folder, now, words, status=0):
     was sent, by the command, and the output on standard error."""
     asked = [("now\n", now)] if now else []
     created = "createby" if "--by" in words else "create"
-    steps = [*asked, (f'{created} "q" ', "ok job 5\n"), SENT, ("hold 5 ", "ok\n"), CLOSED]
+    sent = [("send 5 3", "ok bytes 3\n"), ("hold 5 ", "ok\n"), CLOSED] if "--at" in words or "-H" in words else SENT
+    steps = [*asked, (f'{created} "q" ', "ok job 5\n"), *sent]
     service = played(folder, [steps if not status else asked], status, words=words)
     return {line.split()[0]: int(line.split()[-1]) for line in service.heard if line.startswith(("createby", "hold"))}, service.errors
 
@@ -210,7 +348,7 @@ def test_now(folder):
 def test_time_of_day(folder):
     """A time of day is the next one by the time of the service, in UTC. 5000000000 is 08:53:20."""
     for told, wanted in (("08:53:21", 5000000001), ("8:53:20", 5000000000), ("08:53", 5000000000 - 20 + 86_400), ("00:00", 5000000000 + 54_400)):
-        steps = [("now\n", "ok now 5000000000\n"), ('create "q" ', "ok job 5\n"), SENT, ("hold 5 ", "ok\n"), CLOSED]
+        steps = [("now\n", "ok now 5000000000\n"), CREATED, ("send 5 3", "ok bytes 3\n"), ("hold 5 ", "ok\n"), CLOSED]
         service = played(folder, [steps], 0, task=("lp", "-d", "q", "-H", told))
         same(told, [line for line in service.heard if line.startswith("hold")], [f"hold 5 {wanted}"])
 
@@ -218,14 +356,14 @@ def test_time_of_day(folder):
 def test_removed_while_waiting(folder):
     """A job that was canceled and removed while the program waited for it was not completed."""
     for reply, status in (("error job\n", 5), (shown(3, "7 canceled", "a/b"), 5), (shown(3, "9 job-completed-successfully", "a/b"), 0)):
-        played(folder, [[CREATED, SENT, CLOSED, ("job 5", reply)]], status, words=["--wait"])
+        played(folder, [[CREATED, *SENT, ("job 5", reply)]], status, words=["--wait"])
 
 
 def test_tokens_differ(folder, is_long):
     """No two submissions have the same token."""
     tokens, count = set(), 1_000 if is_long else 40
     for _ in range(count):
-        service = played(folder, [[CREATED, SENT, CLOSED]], 0)
+        service = played(folder, [[CREATED, *SENT]], 0)
         tokens |= {line.split("submission=")[1].split('"')[0] for line in service.heard if line.startswith("create")}
     same("tokens", (len(tokens), {len(token) for token in tokens}), (count, {32}))
 
