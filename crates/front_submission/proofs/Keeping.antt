@@ -24,7 +24,7 @@ Opens sent StoppedGone = Unit {0}
 Opens sent Stands = ⊥
 Opens sent StandsGone = ⊥
 
--- The bytes are those that were sent, and after them a part of a piece.
+-- The sent bytes, and after them a part of a piece.
 abbrev pub IsOneOf : List ℕ → List ℕ → List ℕ → Type 0
 IsOneOf sent more bytes = (part : Part) × (bytes ≡ sent ++ part_of part more)
 

@@ -63,7 +63,7 @@ pub at_end : (ahead : List ℕ) (known : Option (List ℕ)) → ahead ≡ [] →
 at_end ahead None none h = tt
 at_end ahead (Some xs) none h = ap (λ l. l ++ xs) none ∙ h
 
--- The bytes that were kept, and those that were read after them, are the piece and the byte after it.
+-- The kept bytes and the bytes that were read after them are the piece and the byte after it.
 pub read_more : (kept read piece ahead : List ℕ) (old new : Option (List ℕ)) → kept ++ read ≡ piece ++ ahead → Consumes old new read
     → Consumes (prepend_known kept old) (prepend_known ahead new) piece
 read_more kept read piece ahead None new e h = tt
