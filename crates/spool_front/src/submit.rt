@@ -14,7 +14,9 @@ ghost use Rattle.front_submission.specs.SubmissionSteps.{deserted, heard, lost, 
 ghost use Rattle.front_submission.specs.declared.step.Step.{Step};
 
 use crate::client::{Answer, Client, pause};
-use crate::commands::{Draft, close_line, closeat_line, create_line, find_line, hold_line, job_line, job_user};
+use crate::commands::{
+    Draft, close_line, closeat_line, create_line, find_line, hold_line, job_line, job_user,
+};
 use crate::connection::ConnectionFault;
 use crate::document::Document;
 use crate::host::Screen;
