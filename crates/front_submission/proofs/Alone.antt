@@ -7,9 +7,9 @@ use Rattle.front_submission.specs.declared.step.Cause.{Cause}
 use Rattle.front_submission.specs.declared.step.End.{End}
 use Rattle.front_submission.specs.declared.step.End.TheVariants.{Accepted, Unprintable, Refused, Unknown}
 use Rattle.front_submission.specs.declared.reply.Own.{Own}
-use Rattle.front_submission.specs.declared.reply.Reply.TheVariants.{Later, Denied}
-use Rattle.front_submission.specs.SubmissionSteps.{status, first_of, sent_first, request, heard, lost, unread, deserted, own_found, after_send, after_measure, after_hold, after_close, after_check, after_cancel, accepted}
-use Rattle.front_submission.specs.Service.{JobFate, Part, First, Second, part_of, last_bytes, served_part, reply_to_part, NotOwn, Arrives, Stopped, StoppedGone, Stands, StandsGone, Service, changed, grown, closed, stopped, purged, with_fate, served, arriving_at, arriving, found, sent_reply, shown_reply, held_reply, closed_reply, canceled_reply, reply_to, Other, Makes, Cancels, Purges, after_other}
+use Rattle.front_submission.specs.declared.reply.Reply.TheVariants.{Sent, Closed, Later, Denied}
+use Rattle.front_submission.specs.SubmissionSteps.{status, first_of, sent_all, sent_first, request, heard, lost, unread, deserted, own_found, after_send, after_measure, after_hold, after_close, after_check, after_cancel, accepted}
+use Rattle.front_submission.specs.Service.{JobFate, Part, part_of, last_bytes, served_part, reply_to_part, NotOwn, Arrives, Stopped, StoppedGone, Stands, StandsGone, Service, changed, grown, closed, closed_at, stopped, purged, with_fate, with_bytes, with_last, served, arriving_at, arriving, found, sent_reply, last_reply, shown_reply, held_reply, closed_reply, canceled_reply, reply_to, Other, Makes, Cancels, Purges, after_other}
 use Rattle.front_submission.specs.SubmissionRuns.{SubmissionRun, Event, Served, ServedUnheard, ServedUnclear, PartServed, PartServedUnheard, PartServedUnclear, Lost, LeftUnclear, PutOff, TurnedDown, Reads, CannotRead, GivesUp, Meanwhile, read_at, happens, run, start, end_of}
 use Rattle.front_submission.proofs.Keeping.{by_test, unclear_lost}
 
@@ -41,6 +41,15 @@ closed_still Stopped h = tt
 closed_still StoppedGone h = tt
 closed_still Stands h = tt
 closed_still StandsGone h = tt
+
+-- A piece is appended, and then the job is closed if it has this size.
+last_still : (size : ℕ) (piece : List ℕ) → KeepsStill (λ fate. closed_at size (grown piece fate))
+last_still size piece NotOwn h = tt
+last_still size piece (Arrives bytes) h = absurd h
+last_still size piece Stopped h = tt
+last_still size piece StoppedGone h = tt
+last_still size piece Stands h = tt
+last_still size piece StandsGone h = tt
 
 stopped_still : KeepsStill stopped
 stopped_still NotOwn h = tt
@@ -86,8 +95,8 @@ Owns z (Creating tries) = NoneArrives z.fate
 Owns z Finding = Unit {0}
 Owns z (Clearing job) = Unit {0}
 Owns z (Reading job size) = IsAlone z.fate job
-Owns z (Sending job size count tries) = IsAlone z.fate job
-Owns z (Measuring job size count) = IsAlone z.fate job
+Owns z (Sending job size count last tries) = IsAlone z.fate job
+Owns z (Measuring job size count last) = IsAlone z.fate job
 Owns z (Holding job size tries) = IsAlone z.fate job
 Owns z (Closing job size tries again) = IsAlone z.fate job
 Owns z (Checking job size) = IsAlone z.fate job
@@ -208,28 +217,39 @@ found_owns z (one ∷ (two ∷ others)) fresh e = tt
 
 -- ## A request that is executed
 
-first_owns : (z : Service) (job size count new : ℕ) → IsAlone z.fate job → Owns z (sent_first job size count new)
-first_owns z job size count new h = by_test (Owns z) (new == size + first_of count) _ _ (λ _. h) (λ _. tt)
+first_owns : (z : Service) (job size count : ℕ) (last : Bool) (new : ℕ) → IsAlone z.fate job → Owns z (sent_first job size count last new)
+first_owns z job size count last new h = by_test (Owns z) (new == size + first_of count) _ _ (λ _. h) (λ _. tt)
 
-sent_owns : (z : Service) (job size count tries : ℕ) (piece : List ℕ) (s : JobFate) → IsAlone z.fate job → Owns z (after_send job size count tries (sent_reply piece s))
-sent_owns z job size count tries piece NotOwn h = tt
-sent_owns z job size count tries piece (Arrives bytes) h =
-    by_test (Owns z) (length (bytes ++ piece) == size + count) _ _ (λ _. h) (λ _. first_owns z job size count (length (bytes ++ piece)) h)
-sent_owns z job size count tries piece Stopped h = tt
-sent_owns z job size count tries piece StoppedGone h = tt
-sent_owns z job size count tries piece Stands h = tt
-sent_owns z job size count tries piece StandsGone h = tt
+all_owns : (z : Service) (job new : ℕ) (last again : Bool) → IsAlone z.fate job → Owns z (sent_all job new last again)
+all_owns z job new last again h = by_test (Owns z) last _ _ (λ _. h) (λ _. h)
 
-measure_owns : (z : Service) (job size count : ℕ) (prints : Bool) (s : JobFate) → IsAlone z.fate job → Owns z (after_measure job size count (shown_reply prints s))
-measure_owns z job size count prints NotOwn h = tt
-measure_owns z job size count prints (Arrives bytes) h =
-    by_test (Owns z) (length bytes == size) _ _ (λ _. h)
-    (λ _. by_test (Owns z) (length bytes == size + count) _ _ (λ _. h) (λ _. first_owns z job size count (length bytes) h))
-measure_owns z job size count prints Stopped h = tt
-measure_owns z job size count prints StoppedGone h = tt
-measure_owns z job size count true Stands h = tt
-measure_owns z job size count false Stands h = tt
-measure_owns z job size count prints StandsGone h = tt
+-- The job has this size after a piece.
+size_owns : (z : Service) (job size count : ℕ) (last again : Bool) (new : ℕ) → IsAlone z.fate job →
+    Owns z (cond (new == size + count) (sent_all job new last again) (sent_first job size count last new))
+size_owns z job size count last again new h =
+    by_test (Owns z) (new == size + count) _ _ (λ _. all_owns z job new last again h) (λ _. first_owns z job size count last new h)
+
+sent_owns : (z : Service) (job size count : ℕ) (last : Bool) (tries : ℕ) (piece : List ℕ) (s : JobFate) → IsAlone z.fate job →
+    Owns z (after_send job size count last tries (sent_reply piece s))
+sent_owns z job size count last tries piece NotOwn h = tt
+sent_owns z job size count last tries piece (Arrives bytes) h = size_owns z job size count last false (length (bytes ++ piece)) h
+sent_owns z job size count last tries piece Stopped h = tt
+sent_owns z job size count last tries piece StoppedGone h = tt
+sent_owns z job size count last tries piece Stands h = tt
+sent_owns z job size count last tries piece StandsGone h = tt
+
+measure_owns : (z : Service) (job size count : ℕ) (last prints : Bool) (s : JobFate) → z.fate job ≡ s → IsAlone z.fate job →
+    Owns z (after_measure job size count last (shown_reply prints s))
+measure_owns z job size count last prints NotOwn is h = by_test (Owns z) last _ _ (λ _. tt) (λ _. tt)
+measure_owns z job size count last prints (Arrives bytes) is h =
+    by_test (Owns z) (length bytes == size) _ _ (λ _. h) (λ _. size_owns z job size count last true (length bytes) h)
+measure_owns z job size count last prints Stopped is h = tt
+measure_owns z job size count last prints StoppedGone is h = by_test (Owns z) last _ _ (λ _. tt) (λ _. tt)
+measure_owns z job size count last true Stands is h =
+    by_test (Owns z) last _ _ (λ _. none_left z.fate job h (subst IsStill (sym is) tt)) (λ _. tt)
+measure_owns z job size count last false Stands is h =
+    by_test (Owns z) last _ _ (λ _. none_left z.fate job h (subst IsStill (sym is) tt)) (λ _. tt)
+measure_owns z job size count last prints StandsGone is h = by_test (Owns z) last _ _ (λ _. tt) (λ _. tt)
 
 held_owns : (z : Service) (job size tries : ℕ) (s : JobFate) → IsAlone z.fate job → Owns z (after_hold job size tries (held_reply s))
 held_owns z job size tries NotOwn h = tt
@@ -267,6 +287,31 @@ close_owns z piece job size tries again StoppedGone h = alone_changed z.fate job
 close_owns z piece job size tries again Stands h = alone_changed z.fate job job closed closed_still h
 close_owns z piece job size tries again StandsGone h = alone_changed z.fate job job closed closed_still h
 
+-- The last piece and a close. The reply states whether the job was closed.
+last_owns : (z : Service) (job size count tries : ℕ) (piece : List ℕ) (s : JobFate) → z.fate job ≡ s → IsAlone z.fate job →
+    Owns (with_last z job (size + count) piece) (after_send job size count true tries (last_reply z.prints (size + count) piece s))
+last_owns z job size count tries piece NotOwn is h = tt
+last_owns z job size count tries piece (Arrives bytes) is h = by_size (length (bytes ++ piece) == size + count) refl
+  where
+    change : JobFate → JobFate
+    change fate = closed_at (size + count) (grown piece fate)
+
+    alone : IsAlone (changed z.fate job change) job
+    alone = alone_changed z.fate job job change (last_still (size + count) piece) h
+
+    by_size : (b : Bool) → (length (bytes ++ piece) == size + count) ≡ b →
+        Owns (with_last z job (size + count) piece) (after_send job size count true tries (cond b (Closed z.prints) (Sent (length (bytes ++ piece)))))
+    by_size true test =
+        let stands : changed z.fate job change job ≡ Stands =
+          ap (λ (b : Bool). cond b (change (z.fate job)) (z.fate job)) (eq-eqb job job refl) ∙ ap change is
+          ∙ ap (λ (b : Bool). cond b Stands (Arrives (bytes ++ piece))) test in
+        accepted_owns (with_last z job (size + count) piece) job z.prints (none_left (changed z.fate job change) job alone (subst IsStill (sym stands) tt))
+    by_size false test = size_owns (with_last z job (size + count) piece) job size count true false (length (bytes ++ piece)) alone
+last_owns z job size count tries piece Stopped is h = tt
+last_owns z job size count tries piece StoppedGone is h = tt
+last_owns z job size count tries piece Stands is h = tt
+last_owns z job size count tries piece StandsGone is h = tt
+
 check_owns : (z : Service) (job size : ℕ) (prints : Bool) (s : JobFate) → z.fate job ≡ s → IsAlone z.fate job → Owns z (after_check job size (shown_reply prints s))
 check_owns z job size prints NotOwn is h = tt
 check_owns z job size prints (Arrives bytes) is h = by_test (Owns z) (length bytes == size) _ _ (λ _. h) (λ _. tt)
@@ -289,8 +334,11 @@ served_fresh z piece (Creating tries) h = record { beyond = (fresh_made z h).bey
 served_fresh z piece Finding h = h
 served_fresh z piece (Clearing job) h = fresh_changed z job stopped stopped_still h
 served_fresh z piece (Reading job size) h = h
-served_fresh z piece (Sending job size count tries) h = fresh_changed z job (grown (last_bytes count piece)) (grown_still (last_bytes count piece)) h
-served_fresh z piece (Measuring job size count) h = h
+served_fresh z piece (Sending job size count false tries) h = fresh_changed z job (grown (last_bytes count piece)) (grown_still (last_bytes count piece)) h
+served_fresh z piece (Sending job size count true tries) h =
+    let change : JobFate → JobFate = λ fate. closed_at (size + count) (grown (last_bytes count piece) fate) in
+    record { beyond = (fresh_changed z job change (last_still (size + count) (last_bytes count piece)) h).beyond }
+served_fresh z piece (Measuring job size count last) h = h
 served_fresh z piece (Holding job size tries) h = h
 served_fresh z piece (Closing job size tries again) h = record { beyond = (fresh_changed z job closed closed_still h).beyond }
 served_fresh z piece (Checking job size) h = h
@@ -302,11 +350,11 @@ heard_owns z piece (Creating tries) h = alone_made z.fate z.given (λ fate. Arri
 heard_owns z piece Finding h = found_owns z (arriving z.fate z.given) h.fresh refl
 heard_owns z piece (Clearing job) h = tt
 heard_owns z piece (Reading job size) h = h.owns
-heard_owns z piece (Sending job size count tries) h =
+heard_owns z piece (Sending job size count false tries) h =
     let bytes = last_bytes count piece in
-    sent_owns (with_fate z (changed z.fate job (grown bytes))) job size count tries bytes (z.fate job)
-    (alone_changed z.fate job job (grown bytes) (grown_still bytes) h.owns)
-heard_owns z piece (Measuring job size count) h = measure_owns z job size count z.prints (z.fate job) h.owns
+    sent_owns (with_bytes z job bytes) job size count false tries bytes (z.fate job) (alone_changed z.fate job job (grown bytes) (grown_still bytes) h.owns)
+heard_owns z piece (Sending job size count true tries) h = last_owns z job size count tries (last_bytes count piece) (z.fate job) refl h.owns
+heard_owns z piece (Measuring job size count last) h = measure_owns z job size count last z.prints (z.fate job) refl h.owns
 heard_owns z piece (Holding job size tries) h = held_owns z job size tries (z.fate job) h.owns
 heard_owns z piece (Closing job size tries again) h = close_owns z piece job size tries again (z.fate job) h.owns
 heard_owns z piece (Checking job size) h = check_owns z job size z.prints (z.fate job) refl h.owns
@@ -318,9 +366,12 @@ lost_owns z piece (Creating tries) h = tt
 lost_owns z piece Finding h = tt
 lost_owns z piece (Clearing job) h = tt
 lost_owns z piece (Reading job size) h = h.owns
-lost_owns z piece (Sending job size count tries) h =
+lost_owns z piece (Sending job size count false tries) h =
     alone_changed z.fate job job (grown (last_bytes count piece)) (grown_still (last_bytes count piece)) h.owns
-lost_owns z piece (Measuring job size count) h = h.owns
+lost_owns z piece (Sending job size count true tries) h =
+    let change : JobFate → JobFate = λ fate. closed_at (size + count) (grown (last_bytes count piece) fate) in
+    alone_changed z.fate job job change (last_still (size + count) (last_bytes count piece)) h.owns
+lost_owns z piece (Measuring job size count last) h = h.owns
 lost_owns z piece (Holding job size tries) h = h.owns
 lost_owns z piece (Closing job size tries again) h = alone_changed z.fate job job closed closed_still h.owns
 lost_owns z piece (Checking job size) h = h.owns
@@ -334,9 +385,9 @@ part_fresh z part piece (Creating tries) h = h
 part_fresh z part piece Finding h = h
 part_fresh z part piece (Clearing job) h = h
 part_fresh z part piece (Reading job size) h = h
-part_fresh z part piece (Sending job size count tries) h =
+part_fresh z part piece (Sending job size count last tries) h =
     let bytes = part_of part (last_bytes count piece) in fresh_changed z job (grown bytes) (grown_still bytes) h
-part_fresh z part piece (Measuring job size count) h = h
+part_fresh z part piece (Measuring job size count last) h = h
 part_fresh z part piece (Holding job size tries) h = h
 part_fresh z part piece (Closing job size tries again) h = h
 part_fresh z part piece (Checking job size) h = h
@@ -349,11 +400,10 @@ heard_part_owns z part piece (Creating tries) h = tt
 heard_part_owns z part piece Finding h = tt
 heard_part_owns z part piece (Clearing job) h = tt
 heard_part_owns z part piece (Reading job size) h = h
-heard_part_owns z part piece (Sending job size count tries) h =
+heard_part_owns z part piece (Sending job size count last tries) h =
     let bytes = part_of part (last_bytes count piece) in
-    sent_owns (with_fate z (changed z.fate job (grown bytes))) job size count tries bytes (z.fate job)
-    (alone_changed z.fate job job (grown bytes) (grown_still bytes) h)
-heard_part_owns z part piece (Measuring job size count) h = h
+    sent_owns (with_bytes z job bytes) job size count last tries bytes (z.fate job) (alone_changed z.fate job job (grown bytes) (grown_still bytes) h)
+heard_part_owns z part piece (Measuring job size count last) h = h
 heard_part_owns z part piece (Holding job size tries) h = h
 heard_part_owns z part piece (Closing job size tries again) h = h
 heard_part_owns z part piece (Checking job size) h = h
@@ -365,9 +415,9 @@ lost_part_owns z part piece (Creating tries) h = tt
 lost_part_owns z part piece Finding h = tt
 lost_part_owns z part piece (Clearing job) h = tt
 lost_part_owns z part piece (Reading job size) h = h
-lost_part_owns z part piece (Sending job size count tries) h =
+lost_part_owns z part piece (Sending job size count last tries) h =
     let bytes = part_of part (last_bytes count piece) in alone_changed z.fate job job (grown bytes) (grown_still bytes) h
-lost_part_owns z part piece (Measuring job size count) h = h
+lost_part_owns z part piece (Measuring job size count last) h = h
 lost_part_owns z part piece (Holding job size tries) h = h
 lost_part_owns z part piece (Closing job size tries again) h = h
 lost_part_owns z part piece (Checking job size) h = h
@@ -381,8 +431,8 @@ unserved_owns z (Creating tries) h = tt
 unserved_owns z Finding h = tt
 unserved_owns z (Clearing job) h = tt
 unserved_owns z (Reading job size) h = h
-unserved_owns z (Sending job size count tries) h = h
-unserved_owns z (Measuring job size count) h = h
+unserved_owns z (Sending job size count last tries) h = h
+unserved_owns z (Measuring job size count last) h = h
 unserved_owns z (Holding job size tries) h = h
 unserved_owns z (Closing job size tries again) h = h
 unserved_owns z (Checking job size) h = h
@@ -394,8 +444,8 @@ put_off_owns z (Creating tries) h = by_test (Owns z) (tries == 0) _ _ (λ _. tt)
 put_off_owns z Finding h = tt
 put_off_owns z (Clearing job) h = tt
 put_off_owns z (Reading job size) h = h
-put_off_owns z (Sending job size count tries) h = by_test (Owns z) (tries == 0) _ _ (λ _. tt) (λ _. h)
-put_off_owns z (Measuring job size count) h = h
+put_off_owns z (Sending job size count last tries) h = by_test (Owns z) (tries == 0) _ _ (λ _. tt) (λ _. h)
+put_off_owns z (Measuring job size count last) h = h
 put_off_owns z (Holding job size tries) h = by_test (Owns z) (tries == 0) _ _ (λ _. tt) (λ _. h)
 put_off_owns z (Closing job size tries again) h = by_test (Owns z) (tries == 0) _ _ (λ _. tt) (λ _. h)
 put_off_owns z (Checking job size) h = h
@@ -407,8 +457,8 @@ denied_owns z (Creating tries) h = tt
 denied_owns z Finding h = tt
 denied_owns z (Clearing job) h = tt
 denied_owns z (Reading job size) h = h
-denied_owns z (Sending job size count tries) h = tt
-denied_owns z (Measuring job size count) h = tt
+denied_owns z (Sending job size count last tries) h = tt
+denied_owns z (Measuring job size count last) h = by_test (Owns z) last _ _ (λ _. tt) (λ _. tt)
 denied_owns z (Holding job size tries) h = tt
 denied_owns z (Closing job size tries again) h = tt
 denied_owns z (Checking job size) h = tt
@@ -420,8 +470,8 @@ unread_owns z (Creating tries) h = h
 unread_owns z Finding h = h
 unread_owns z (Clearing job) h = h
 unread_owns z (Reading job size) h = tt
-unread_owns z (Sending job size count tries) h = h
-unread_owns z (Measuring job size count) h = h
+unread_owns z (Sending job size count last tries) h = h
+unread_owns z (Measuring job size count last) h = h
 unread_owns z (Holding job size tries) h = h
 unread_owns z (Closing job size tries again) h = h
 unread_owns z (Checking job size) h = h
@@ -433,8 +483,9 @@ deserted_owns z (Creating tries) h = tt
 deserted_owns z Finding h = tt
 deserted_owns z (Clearing job) h = tt
 deserted_owns z (Reading job size) h = tt
-deserted_owns z (Sending job size count tries) h = tt
-deserted_owns z (Measuring job size count) h = tt
+deserted_owns z (Sending job size count last tries) h = tt
+deserted_owns z (Measuring job size count true) h = tt
+deserted_owns z (Measuring job size count false) h = tt
 deserted_owns z (Holding job size tries) h = tt
 deserted_owns z (Closing job size tries true) h = tt
 deserted_owns z (Closing job size tries false) h = tt
@@ -449,8 +500,8 @@ gentle_owns z job change kept (Creating tries) h = none_changed z.fate job chang
 gentle_owns z job change kept Finding h = tt
 gentle_owns z job change kept (Clearing own) h = tt
 gentle_owns z job change kept (Reading own size) h = alone_changed z.fate own job change kept h
-gentle_owns z job change kept (Sending own size count tries) h = alone_changed z.fate own job change kept h
-gentle_owns z job change kept (Measuring own size count) h = alone_changed z.fate own job change kept h
+gentle_owns z job change kept (Sending own size count last tries) h = alone_changed z.fate own job change kept h
+gentle_owns z job change kept (Measuring own size count last) h = alone_changed z.fate own job change kept h
 gentle_owns z job change kept (Holding own size tries) h = alone_changed z.fate own job change kept h
 gentle_owns z job change kept (Closing own size tries again) h = alone_changed z.fate own job change kept h
 gentle_owns z job change kept (Checking own size) h = alone_changed z.fate own job change kept h
@@ -465,8 +516,8 @@ numbered_owns z (Creating tries) h = h
 numbered_owns z Finding h = h
 numbered_owns z (Clearing job) h = h
 numbered_owns z (Reading job size) h = h
-numbered_owns z (Sending job size count tries) h = h
-numbered_owns z (Measuring job size count) h = h
+numbered_owns z (Sending job size count last tries) h = h
+numbered_owns z (Measuring job size count last) h = h
 numbered_owns z (Holding job size tries) h = h
 numbered_owns z (Closing job size tries again) h = h
 numbered_owns z (Checking job size) h = h
@@ -483,20 +534,20 @@ others_own z step (Purges job) h = record { fresh = fresh_changed z job purged p
 
 -- ## Whole runs
 
-reads_own : (w : SubmissionRun) (step : Step) (rest : List (List ℕ)) → Keeps w.service step → Keeps (read_at w step rest).service (read_at w step rest).step
-reads_own w (Creating tries) rest h = h
-reads_own w Finding rest h = h
-reads_own w (Clearing job) rest h = h
-reads_own w (Reading job size) [] h = record { fresh = h.fresh; owns = by_test (Owns w.service) w.holds _ _ (λ _. h.owns) (λ _. h.owns) }
-reads_own w (Reading job size) (piece ∷ rest) h =
+reads_own : (w : SubmissionRun) (end : Bool) (step : Step) (rest : List (List ℕ)) → Keeps w.service step → Keeps (read_at w end step rest).service (read_at w end step rest).step
+reads_own w end (Creating tries) rest h = h
+reads_own w end Finding rest h = h
+reads_own w end (Clearing job) rest h = h
+reads_own w end (Reading job size) [] h = record { fresh = h.fresh; owns = by_test (Owns w.service) w.holds _ _ (λ _. h.owns) (λ _. h.owns) }
+reads_own w end (Reading job size) (piece ∷ rest) h =
     record { fresh = h.fresh; owns = by_test (Owns w.service) (length piece == 0) _ _ (λ _. by_test (Owns w.service) w.holds _ _ (λ _. h.owns) (λ _. h.owns)) (λ _. h.owns) }
-reads_own w (Sending job size count tries) rest h = h
-reads_own w (Measuring job size count) rest h = h
-reads_own w (Holding job size tries) rest h = h
-reads_own w (Closing job size tries again) rest h = h
-reads_own w (Checking job size) rest h = h
-reads_own w (Canceling job cause) rest h = h
-reads_own w (Ended end) rest h = h
+reads_own w end (Sending job size count last tries) rest h = h
+reads_own w end (Measuring job size count last) rest h = h
+reads_own w end (Holding job size tries) rest h = h
+reads_own w end (Closing job size tries again) rest h = h
+reads_own w end (Checking job size) rest h = h
+reads_own w end (Canceling job cause) rest h = h
+reads_own w end (Ended outcome) rest h = h
 
 happens_owns : (w : SubmissionRun) (event : Event) → Keeps w.service w.step → Keeps (happens w event).service (happens w event).step
 happens_owns w Served h = record { fresh = served_fresh w.service w.piece w.step h.fresh; owns = heard_owns w.service w.piece w.step h }
@@ -518,7 +569,7 @@ happens_owns w Lost h = record { fresh = h.fresh; owns = unserved_owns w.service
 happens_owns w LeftUnclear h = record { fresh = h.fresh; owns = subst (Owns w.service) (sym (unclear_lost w.step)) (unserved_owns w.service w.step h.owns) }
 happens_owns w PutOff h = record { fresh = h.fresh; owns = put_off_owns w.service w.step h.owns }
 happens_owns w TurnedDown h = record { fresh = h.fresh; owns = denied_owns w.service w.step h.owns }
-happens_owns w Reads h = reads_own w w.step w.rest h
+happens_owns w (Reads end) h = reads_own w end w.step w.rest h
 happens_owns w CannotRead h = record { fresh = h.fresh; owns = unread_owns w.service w.step h.owns }
 happens_owns w GivesUp h = record { fresh = h.fresh; owns = deserted_owns w.service w.step h.owns }
 happens_owns w (Meanwhile other) h = others_own w.service w.step other h

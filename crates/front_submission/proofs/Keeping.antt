@@ -1,5 +1,5 @@
 -- The invariant of a submission at each step.
-use Rattle.std.proofs.Common.{◌≡◌, ℕ, ◌+◌, ◌-◌, ◌≤◌, ◌<◌, zero, suc, ◌⊎◌, inl, inr, Bool, true, false, cond, ◌==◌, List, [], ◌∷◌, ◌++◌, drop, length, min, take, refl, ap, sym, ◌∙◌, subst, arith, eq-eqb, length-append, length-drop, append_assoc, append-nil}
+use Rattle.std.proofs.Common.{◌≡◌, ℕ, ◌+◌, ◌-◌, ◌≤◌, ◌<◌, zero, suc, ◌⊎◌, inl, inr, Bool, true, false, cond, ◌==◌, ◌&&◌, not, List, [], ◌∷◌, ◌++◌, drop, length, min, refl, ap, sym, ◌∙◌, subst, arith, eq-eqb, length-append, length-drop, append_assoc, append-nil, true≢false}
 use Rattle.std.proofs.lemmas.List.{drop-drop, length-take, take-append-drop, take_all}
 use Rattle.std.proofs.lemmas.Bool.{cases_lt, eqb-true}
 use Rattle.front_submission.specs.declared.step.Step.{Step}
@@ -7,10 +7,10 @@ use Rattle.front_submission.specs.declared.step.Step.TheVariants.{Creating, Find
 use Rattle.front_submission.specs.declared.step.End.{End}
 use Rattle.front_submission.specs.declared.step.End.TheVariants.{Accepted, Unprintable, Refused, Unknown}
 use Rattle.front_submission.specs.declared.reply.Own.{Own}
-use Rattle.front_submission.specs.declared.reply.Reply.TheVariants.{Later, Denied, Unclear}
-use Rattle.front_submission.specs.SubmissionSteps.{status, first_of, sent_first, most_tries, request, heard, lost, unread, deserted, taken, own_found, measured, after_send, after_measure, after_hold, after_close, after_check, after_cancel, accepted}
-use Rattle.front_submission.specs.Service.{JobFate, Part, First, Second, part_of, last_bytes, served_part, reply_to_part, NotOwn, Arrives, Stopped, StoppedGone, Stands, StandsGone, Service, changed, grown, closed, stopped, purged, with_close, with_fate, served, arriving_at, arriving, found, sent_reply, shown_reply, held_reply, closed_reply, canceled_reply, reply_to, Other, Makes, Cancels, Purges, after_other}
-use Rattle.front_submission.specs.SubmissionRuns.{SubmissionRun, Event, Served, ServedUnheard, ServedUnclear, PartServed, PartServedUnheard, PartServedUnclear, Lost, LeftUnclear, PutOff, TurnedDown, Reads, CannotRead, GivesUp, Meanwhile, read_at, happens, run, ArePieces, most_piece, joined, start, end_of}
+use Rattle.front_submission.specs.declared.reply.Reply.TheVariants.{Sent, Closed, Later, Denied, Unclear}
+use Rattle.front_submission.specs.SubmissionSteps.{status, first_of, sent_first, sent_all, request, heard, lost, unread, deserted, taken, own_found, measured, after_send, after_measure, after_hold, after_close, after_check, after_cancel, accepted}
+use Rattle.front_submission.specs.Service.{JobFate, Part, First, Second, Both, part_of, last_bytes, served_part, reply_to_part, NotOwn, Arrives, Stopped, StoppedGone, Stands, StandsGone, Service, changed, grown, closed, closed_at, stopped, purged, with_close, with_close_at, with_fate, with_bytes, with_last, served, arriving_at, arriving, found, sent_reply, last_reply, shown_reply, held_reply, closed_reply, canceled_reply, reply_to, Other, Makes, Cancels, Purges, after_other}
+use Rattle.front_submission.specs.SubmissionRuns.{SubmissionRun, Event, Served, ServedUnheard, ServedUnclear, PartServed, PartServedUnheard, PartServedUnclear, Lost, LeftUnclear, PutOff, TurnedDown, Reads, CannotRead, GivesUp, Meanwhile, is_none, read_at, happens, run, ArePieces, most_piece, joined, start, end_of}
 
 -- ## Statements about a job
 
@@ -23,9 +23,9 @@ Opens sent StoppedGone = Unit {0}
 Opens sent Stands = ⊥
 Opens sent StandsGone = ⊥
 
--- The bytes are those that were sent, and after them none, all, or one part of a piece.
+-- The bytes are those that were sent, and after them none or one part of a piece.
 abbrev pub IsOneOf : List ℕ → List ℕ → List ℕ → Type 0
-IsOneOf sent more bytes = (bytes ≡ sent) ⊎ ((bytes ≡ sent ++ more) ⊎ ((part : Part) × (bytes ≡ sent ++ part_of part more)))
+IsOneOf sent more bytes = (bytes ≡ sent) ⊎ ((part : Part) × (bytes ≡ sent ++ part_of part more))
 
 -- If the job is incoming, it has one of these contents. It was not closed.
 abbrev pub OpensEither : List ℕ → List ℕ → JobFate → Type 0
@@ -117,19 +117,11 @@ purged_gently = record { opens = purged_opens; either = purged_either; closed = 
 
 grown_part : (sent piece : List ℕ) (part : Part) (s : JobFate) → Opens sent s → OpensEither sent piece (grown (part_of part piece) s)
 grown_part sent piece part NotOwn h = tt
-grown_part sent piece part (Arrives bytes) h = inr (inr (part, ap (λ (b : List ℕ). b ++ part_of part piece) h))
+grown_part sent piece part (Arrives bytes) h = inr (part, ap (λ (b : List ℕ). b ++ part_of part piece) h)
 grown_part sent piece part Stopped h = tt
 grown_part sent piece part StoppedGone h = tt
 grown_part sent piece part Stands h = h
 grown_part sent piece part StandsGone h = h
-
-grown_either : (sent piece : List ℕ) (s : JobFate) → Opens sent s → OpensEither sent piece (grown piece s)
-grown_either sent piece NotOwn h = tt
-grown_either sent piece (Arrives bytes) h = inr (inl (ap (λ (b : List ℕ). b ++ piece) h))
-grown_either sent piece Stopped h = tt
-grown_either sent piece StoppedGone h = tt
-grown_either sent piece Stands h = h
-grown_either sent piece StandsGone h = h
 
 -- A statement that a change preserves for each job is preserved if one job changes.
 changed_keeps : (P : JobFate → Type 0) (fate : ℕ → JobFate) (job : ℕ) (change : JobFate → JobFate) (k : ℕ) →
@@ -152,14 +144,21 @@ pub record IsLeft (document sent : List ℕ) (size : ℕ) (rest : List (List ℕ
   pub sent_is : length sent ≡ size
   pub pieces : ArePieces rest
 
--- The same, while a piece of this length is sent.
-pub record IsSending (document sent : List ℕ) (size : ℕ) (piece : List ℕ) (count : ℕ) (rest : List (List ℕ)) : Type 0 where
+-- The same, while a piece of this length is sent. No piece remains after the last one.
+pub record IsSending (document sent : List ℕ) (size : ℕ) (piece : List ℕ) (count : ℕ) (last : Bool) (rest : List (List ℕ)) : Type 0 where
   pub all : (sent ++ piece) ++ joined rest ≡ document
   pub sent_is : length sent ≡ size
   pub piece_is : length piece ≡ count
   pub some : 0 < count
   pub short : count ≤ most_piece
+  pub ends : last ≡ true → rest ≡ []
   pub pieces : ArePieces rest
+
+-- No job was closed, and a part of a piece may have been sent to this one. If the piece is the last one, the job may have been closed with the
+-- whole document instead.
+abbrev pub MayBeSent : List ℕ → List ℕ → List ℕ → Bool → Service → ℕ → Type 0
+MayBeSent document sent more last z job =
+    ((z.closes ≡ []) × OpensEither sent more (z.fate job)) ⊎ ((last ≡ true) × (z.closes ≡ document ∷ []) × IsClosed (z.fate job))
 
 -- No job was closed, or this job was closed with the whole document.
 abbrev pub MayBeClosed : List ℕ → Service → ℕ → Type 0
@@ -176,10 +175,10 @@ Keeps document piece rest z (Creating tries) = (z.closes ≡ []) × IsLeft docum
 Keeps document piece rest z Finding = (z.closes ≡ []) × IsLeft document [] 0 rest
 Keeps document piece rest z (Clearing job) = (z.closes ≡ []) × IsLeft document [] 0 rest
 Keeps document piece rest z (Reading job size) = (sent : List ℕ) × ((z.closes ≡ []) × Opens sent (z.fate job) × IsLeft document sent size rest)
-Keeps document piece rest z (Sending job size count tries) =
-    (sent : List ℕ) × ((z.closes ≡ []) × Opens sent (z.fate job) × IsSending document sent size (last_bytes count piece) count rest)
-Keeps document piece rest z (Measuring job size count) =
-    (sent : List ℕ) × ((z.closes ≡ []) × OpensEither sent (last_bytes count piece) (z.fate job) × IsSending document sent size (last_bytes count piece) count rest)
+Keeps document piece rest z (Sending job size count last tries) =
+    (sent : List ℕ) × ((z.closes ≡ []) × Opens sent (z.fate job) × IsSending document sent size (last_bytes count piece) count last rest)
+Keeps document piece rest z (Measuring job size count last) =
+    (sent : List ℕ) × (MayBeSent document sent (last_bytes count piece) last z job × IsSending document sent size (last_bytes count piece) count last rest)
 Keeps document piece rest z (Holding job size tries) = (z.closes ≡ []) × Opens document (z.fate job)
 Keeps document piece rest z (Closing job size tries again) = (z.closes ≡ []) × Opens document (z.fate job)
 Keeps document piece rest z (Checking job size) = MayBeClosed document z job
@@ -216,9 +215,15 @@ arriving_all fate zero = tt
 arriving_all fate (suc job) = arriving_one fate job (fate job) refl (arriving fate job) (arriving_all fate job)
 
 -- After a piece was sent, the pieces after it remain.
-sent_left : (document sent : List ℕ) (size : ℕ) (piece : List ℕ) (count : ℕ) (rest : List (List ℕ)) (new : ℕ) → length (sent ++ piece) ≡ new →
-    IsSending document sent size piece count rest → IsLeft document (sent ++ piece) new rest
-sent_left document sent size piece count rest new e g = record { all = g.all; sent_is = e; pieces = g.pieces }
+sent_left : (document sent : List ℕ) (size : ℕ) (piece : List ℕ) (count : ℕ) (last : Bool) (rest : List (List ℕ)) (new : ℕ) → length (sent ++ piece) ≡ new →
+    IsSending document sent size piece count last rest → IsLeft document (sent ++ piece) new rest
+sent_left document sent size piece count last rest new e g = record { all = g.all; sent_is = e; pieces = g.pieces }
+
+-- After the last piece the document is whole.
+sent_whole : (document sent : List ℕ) (size : ℕ) (piece : List ℕ) (count : ℕ) (last : Bool) (rest : List (List ℕ)) → last ≡ true →
+    IsSending document sent size piece count last rest → sent ++ piece ≡ document
+sent_whole document sent size piece count last rest e g =
+    sym (append-nil (sent ++ piece)) ∙ ap (λ (pieces : List (List ℕ)). (sent ++ piece) ++ joined pieces) (sym (g.ends e)) ∙ g.all
 
 no_bytes : (bytes : List ℕ) → length bytes ≡ 0 → bytes ≡ []
 no_bytes [] e = refl
@@ -256,10 +261,10 @@ last_of_last piece count e two =
     drop-drop 65536 (length piece - count) piece ∙ ap (λ n. drop n piece) skips
 
 -- After the first command of a piece the bytes of the second one remain.
-first_left : (document sent : List ℕ) (size : ℕ) (piece : List ℕ) (count : ℕ) (rest : List (List ℕ)) (new : ℕ) →
-    IsSending document sent size (last_bytes count piece) count rest → first_of count < count → new ≡ size + first_of count →
-    IsSending document (sent ++ part_of First (last_bytes count piece)) new (last_bytes (count - first_of count) piece) (count - first_of count) rest
-first_left document sent size piece count rest new g two e =
+first_left : (document sent : List ℕ) (size : ℕ) (piece : List ℕ) (count : ℕ) (last : Bool) (rest : List (List ℕ)) (new : ℕ) →
+    IsSending document sent size (last_bytes count piece) count last rest → first_of count < count → new ≡ size + first_of count →
+    IsSending document (sent ++ part_of First (last_bytes count piece)) new (last_bytes (count - first_of count) piece) (count - first_of count) last rest
+first_left document sent size piece count last rest new g two e =
     let bytes = last_bytes count piece in
     let second = last_of_last piece count g.piece_is two in
     let sizes : length (sent ++ part_of First bytes) ≡ length sent + length (part_of First bytes) = length-append sent (part_of First bytes) in
@@ -275,8 +280,16 @@ first_left document sent size piece count rest new g two e =
       piece_is = omega arith;
       some = omega arith;
       short = omega arith;
+      ends = g.ends;
       pieces = g.pieces;
     }
+
+-- The size after the piece.
+length_sent : (document sent : List ℕ) (size : ℕ) (piece : List ℕ) (count : ℕ) (last : Bool) (rest : List (List ℕ)) →
+    IsSending document sent size piece count last rest → length (sent ++ piece) ≡ size + count
+length_sent document sent size piece count last rest g =
+    let sizes : length (sent ++ piece) ≡ length sent + length piece = length-append sent piece in
+    let sent_is = g.sent_is in let piece_is = g.piece_is in omega arith
 
 module _ (document piece : List ℕ) (rest : List (List ℕ)) (z : Service) where
   -- The job that was found.
@@ -293,16 +306,16 @@ module _ (document piece : List ℕ) (rest : List (List ℕ)) (z : Service) wher
   found_keeps (one ∷ (two ∷ others)) all h = h
 
   -- If only the first command was executed, the other bytes are sent.
-  first_keeps : (job size count new : ℕ) (sent : List ℕ) → z.closes ≡ [] → Opens (sent ++ part_of First (last_bytes count piece)) (z.fate job) →
-      IsSending document sent size (last_bytes count piece) count rest → (new ≡ size + count → ⊥) → Keeps document piece rest z (sent_first job size count new)
-  first_keeps job size count new sent none o g other =
+  first_keeps : (job size count new : ℕ) (last : Bool) (sent : List ℕ) → z.closes ≡ [] → Opens (sent ++ part_of First (last_bytes count piece)) (z.fate job) →
+      IsSending document sent size (last_bytes count piece) count last rest → (new ≡ size + count → ⊥) → Keeps document piece rest z (sent_first job size count last new)
+  first_keeps job size count new last sent none o g other =
       by_test (Keeps document piece rest z) (new == size + first_of count) _ _
       (λ e. (
         sent ++ part_of First (last_bytes count piece),
         (
           none,
           o,
-          first_left document sent size piece count rest new g (two (eqb-true new (size + first_of count) e)) (eqb-true new (size + first_of count) e),
+          first_left document sent size piece count last rest new g (two (eqb-true new (size + first_of count) e)) (eqb-true new (size + first_of count) e),
         ),
       ))
       (λ _. none)
@@ -315,34 +328,28 @@ module _ (document piece : List ℕ) (rest : List (List ℕ)) (z : Service) wher
           by_case (inr le) = let all : new ≡ size + count = omega arith in absurd (other all)
 
   -- No size of another state is that after the first command.
-  not_first : (job size count new : ℕ) → z.closes ≡ [] → (new ≡ size + first_of count → ⊥) → Keeps document piece rest z (sent_first job size count new)
-  not_first job size count new none other =
+  not_first : (job size count new : ℕ) (last : Bool) → z.closes ≡ [] → (new ≡ size + first_of count → ⊥) → Keeps document piece rest z (sent_first job size count last new)
+  not_first job size count new last none other =
       by_test (Keeps document piece rest z) (new == size + first_of count) _ _ (λ e. absurd (other (eqb-true new (size + first_of count) e))) (λ _. none)
 
   -- The whole piece was sent.
-  whole_keeps : (job size count : ℕ) (sent : List ℕ) → z.closes ≡ [] → Opens (sent ++ last_bytes count piece) (z.fate job) →
-      IsSending document sent size (last_bytes count piece) count rest → (new : ℕ) → length (sent ++ last_bytes count piece) ≡ new → Keeps document piece rest z (Reading job new)
-  whole_keeps job size count sent none o g new e = (sent ++ last_bytes count piece, (none, o, sent_left document sent size (last_bytes count piece) count rest new e g))
+  whole_keeps : (job size count : ℕ) (last again : Bool) (sent : List ℕ) → z.closes ≡ [] → Opens (sent ++ last_bytes count piece) (z.fate job) →
+      IsSending document sent size (last_bytes count piece) count last rest → (new : ℕ) → length (sent ++ last_bytes count piece) ≡ new →
+      Keeps document piece rest z (sent_all job new last again)
+  whole_keeps job size count last again sent none o g new e =
+      by_test (Keeps document piece rest z) last _ _
+      (λ is. (none, subst (λ (l : List ℕ). Opens l (z.fate job)) (sent_whole document sent size (last_bytes count piece) count last rest is g) o))
+      (λ _. (sent ++ last_bytes count piece, (none, o, sent_left document sent size (last_bytes count piece) count last rest new e g)))
 
-  -- The size of a job that has the whole piece.
-  all_sent_keeps : (job size count new : ℕ) (sent : List ℕ) → z.closes ≡ [] → Opens (sent ++ last_bytes count piece) (z.fate job) →
-      IsSending document sent size (last_bytes count piece) count rest → new ≡ length (sent ++ last_bytes count piece) →
-      Keeps document piece rest z (cond (new == size + count) (Reading job new) (sent_first job size count new))
-  all_sent_keeps job size count new sent none o g e =
-      by_test (Keeps document piece rest z) (new == size + count) _ _ (λ _. whole_keeps job size count sent none o g new (sym e)) (λ test. absurd (differ new (size + count) test is))
-    where
-      is : new ≡ size + count
-      is = let sizes : length (sent ++ last_bytes count piece) ≡ length sent + length (last_bytes count piece) = length-append sent (last_bytes count piece) in
-          let sent_is = g.sent_is in let piece_is = g.piece_is in omega arith
-
-  -- The size of a job that has one part of the piece.
-  part_sent_keeps : (job size count new : ℕ) (part : Part) (sent : List ℕ) → z.closes ≡ [] → Opens (sent ++ part_of part (last_bytes count piece)) (z.fate job) →
-      IsSending document sent size (last_bytes count piece) count rest → new ≡ length (sent ++ part_of part (last_bytes count piece)) →
-      Keeps document piece rest z (cond (new == size + count) (Reading job new) (sent_first job size count new))
-  part_sent_keeps job size count new First sent none o g e =
+  -- The size of a job that has this part of the piece.
+  part_sent_keeps : (job size count new : ℕ) (last again : Bool) (part : Part) (sent : List ℕ) → z.closes ≡ [] →
+      Opens (sent ++ part_of part (last_bytes count piece)) (z.fate job) → IsSending document sent size (last_bytes count piece) count last rest →
+      new ≡ length (sent ++ part_of part (last_bytes count piece)) →
+      Keeps document piece rest z (cond (new == size + count) (sent_all job new last again) (sent_first job size count last new))
+  part_sent_keeps job size count new last again First sent none o g e =
       by_test (Keeps document piece rest z) (new == size + count) _ _
       (λ test. whole (eqb-true new (size + count) test))
-      (λ test. first_keeps job size count new sent none o g (differ new (size + count) test))
+      (λ test. first_keeps job size count new last sent none o g (differ new (size + count) test))
     where
       bytes : List ℕ
       bytes = last_bytes count piece
@@ -351,16 +358,16 @@ module _ (document piece : List ℕ) (rest : List (List ℕ)) (z : Service) wher
       is = let sizes : length (sent ++ part_of First bytes) ≡ length sent + length (part_of First bytes) = length-append sent (part_of First bytes) in
           let first_is = length_first bytes count g.piece_is in let sent_is = g.sent_is in omega arith
 
-      whole : new ≡ size + count → Keeps document piece rest z (Reading job new)
+      whole : new ≡ size + count → Keeps document piece rest z (sent_all job new last again)
       whole test =
           let at = is in
           let all : first_of count ≡ count = omega arith in
           let same = first_is_all bytes count g.piece_is all in
-          whole_keeps job size count sent none (subst (λ (l : List ℕ). Opens (sent ++ l) (z.fate job)) same o) g new (sym (e ∙ ap (λ (l : List ℕ). length (sent ++ l)) same))
-  part_sent_keeps job size count new Second sent none o g e =
+          whole_keeps job size count last again sent none (subst (λ (l : List ℕ). Opens (sent ++ l) (z.fate job)) same o) g new (sym (e ∙ ap (λ (l : List ℕ). length (sent ++ l)) same))
+  part_sent_keeps job size count new last again Second sent none o g e =
       by_test (Keeps document piece rest z) (new == size + count) _ _
       (λ test. absurd (not_whole (eqb-true new (size + count) test)))
-      (λ _. not_first job size count new none not_as_first)
+      (λ _. not_first job size count new last none not_as_first)
     where
       bytes : List ℕ
       bytes = last_bytes count piece
@@ -374,29 +381,23 @@ module _ (document piece : List ℕ) (rest : List (List ℕ)) (z : Service) wher
 
       not_as_first : new ≡ size + first_of count → ⊥
       not_as_first test = let at = is in let some = g.some in let short = g.short in absurd (omega arith)
+  part_sent_keeps job size count new last again Both sent none o g e =
+      by_test (Keeps document piece rest z) (new == size + count) _ _
+      (λ _. whole_keeps job size count last again sent none o g new (sym e))
+      (λ test. absurd (differ new (size + count) test (e ∙ length_sent document sent size (last_bytes count piece) count last rest g)))
 
-  -- The state of a job after a piece may have been sent.
-  measured_keeps : (job size count : ℕ) (bytes : List ℕ) → z.fate job ≡ Arrives bytes → (sent : List ℕ) → z.closes ≡ [] →
-      IsOneOf sent (last_bytes count piece) bytes → IsSending document sent size (last_bytes count piece) count rest →
-      Keeps document piece rest z (measured job size count (length bytes))
-  measured_keeps job size count bytes is sent none (inl o) g =
+  -- The size of a job that may have a part of the piece.
+  measured_keeps : (job size count : ℕ) (last : Bool) (bytes : List ℕ) → z.fate job ≡ Arrives bytes → (sent : List ℕ) → z.closes ≡ [] →
+      IsOneOf sent (last_bytes count piece) bytes → IsSending document sent size (last_bytes count piece) count last rest →
+      Keeps document piece rest z (measured job size count last (length bytes))
+  measured_keeps job size count last bytes is sent none (inl o) g =
       by_test (Keeps document piece rest z) (length bytes == size) _ _
       (λ _. (sent, (none, subst (Opens sent) (sym is) o, g)))
       (λ test. absurd (differ (length bytes) size test (ap length o ∙ g.sent_is)))
-  measured_keeps job size count bytes is sent none (inr (inl o)) g =
+  measured_keeps job size count last bytes is sent none (inr (First, o)) g =
       by_test (Keeps document piece rest z) (length bytes == size) _ _
       (λ test. absurd (longer (eqb-true (length bytes) size test)))
-      (λ _. all_sent_keeps job size count (length bytes) sent none (subst (Opens (sent ++ last_bytes count piece)) (sym is) o) g (ap length o))
-    where
-      longer : length bytes ≡ size → ⊥
-      longer test =
-          let sizes : length (sent ++ last_bytes count piece) ≡ length sent + length (last_bytes count piece) = length-append sent (last_bytes count piece) in
-          let same : length bytes ≡ length (sent ++ last_bytes count piece) = ap length o in
-          let sent_is = g.sent_is in let piece_is = g.piece_is in let some = g.some in absurd (omega arith)
-  measured_keeps job size count bytes is sent none (inr (inr (First, o))) g =
-      by_test (Keeps document piece rest z) (length bytes == size) _ _
-      (λ test. absurd (longer (eqb-true (length bytes) size test)))
-      (λ _. part_sent_keeps job size count (length bytes) First sent none (subst (Opens (sent ++ part_of First (last_bytes count piece))) (sym is) o) g (ap length o))
+      (λ _. part_sent_keeps job size count (length bytes) last true First sent none (subst (Opens (sent ++ part_of First (last_bytes count piece))) (sym is) o) g (ap length o))
     where
       longer : length bytes ≡ size → ⊥
       longer test =
@@ -405,10 +406,10 @@ module _ (document piece : List ℕ) (rest : List (List ℕ)) (z : Service) wher
           let same : length bytes ≡ length (sent ++ part) = ap length o in
           let first_is = length_first (last_bytes count piece) count g.piece_is in
           let sent_is = g.sent_is in let some = g.some in absurd (omega arith)
-  measured_keeps job size count bytes is sent none (inr (inr (Second, o))) g =
+  measured_keeps job size count last bytes is sent none (inr (Second, o)) g =
       by_test (Keeps document piece rest z) (length bytes == size) _ _
       (λ test. (sent, (none, subst (Opens sent) (sym is) (o ∙ second_is_none sent (last_bytes count piece) (nothing (eqb-true (length bytes) size test))), g)))
-      (λ _. part_sent_keeps job size count (length bytes) Second sent none (subst (Opens (sent ++ part_of Second (last_bytes count piece))) (sym is) o) g (ap length o))
+      (λ _. part_sent_keeps job size count (length bytes) last true Second sent none (subst (Opens (sent ++ part_of Second (last_bytes count piece))) (sym is) o) g (ap length o))
     where
       nothing : length bytes ≡ size → length (part_of Second (last_bytes count piece)) ≡ 0
       nothing test =
@@ -416,15 +417,58 @@ module _ (document piece : List ℕ) (rest : List (List ℕ)) (z : Service) wher
           let sizes : length (sent ++ part) ≡ length sent + length part = length-append sent part in
           let same : length bytes ≡ length (sent ++ part) = ap length o in
           let sent_is = g.sent_is in omega arith
+  measured_keeps job size count last bytes is sent none (inr (Both, o)) g =
+      by_test (Keeps document piece rest z) (length bytes == size) _ _
+      (λ test. absurd (longer (eqb-true (length bytes) size test)))
+      (λ _. part_sent_keeps job size count (length bytes) last true Both sent none (subst (Opens (sent ++ last_bytes count piece)) (sym is) o) g (ap length o))
+    where
+      longer : length bytes ≡ size → ⊥
+      longer test =
+          let whole : length bytes ≡ size + count = ap length o ∙ length_sent document sent size (last_bytes count piece) count last rest g in
+          let some = g.some in absurd (omega arith)
 
-  measure_keeps : (job size count : ℕ) (s : JobFate) → z.fate job ≡ s → (sent : List ℕ) → z.closes ≡ [] → OpensEither sent (last_bytes count piece) s →
-      IsSending document sent size (last_bytes count piece) count rest → Keeps document piece rest z (after_measure job size count (shown_reply z.prints s))
-  measure_keeps job size count NotOwn is sent none o g = none
-  measure_keeps job size count (Arrives bytes) is sent none o g = measured_keeps job size count bytes is sent none o g
-  measure_keeps job size count Stopped is sent none o g = none
-  measure_keeps job size count StoppedGone is sent none o g = none
-  measure_keeps job size count Stands is sent none o g = absurd o
-  measure_keeps job size count StandsGone is sent none o g = none
+  accepted_keeps : (job : ℕ) (printable : Bool) → z.prints ≡ printable → z.closes ≡ document ∷ [] → Keeps document piece rest z (accepted job printable)
+  accepted_keeps job true is h = (h, is)
+  accepted_keeps job false is h = (h, is)
+
+  -- A job that may have been closed with the last piece was closed at most once, with the whole document.
+  either_sent : (job count : ℕ) (sent : List ℕ) (last : Bool) → MayBeSent document sent (last_bytes count piece) last z job →
+      (z.closes ≡ []) ⊎ (z.closes ≡ document ∷ [])
+  either_sent job count sent last (inl h) = inl h.0
+  either_sent job count sent last (inr h) = inr h.1
+
+  -- Before the last piece it was not closed.
+  never_closed : (job count : ℕ) (sent : List ℕ) (last : Bool) → last ≡ false → MayBeSent document sent (last_bytes count piece) last z job → z.closes ≡ []
+  never_closed job count sent last is (inl h) = h.0
+  never_closed job count sent last is (inr h) = absurd (true≢false (sym h.0 ∙ is))
+
+  -- Its end is unknown, or it was not the last piece.
+  unknown_keeps : (job count : ℕ) (sent : List ℕ) (last : Bool) (other : Step) → MayBeSent document sent (last_bytes count piece) last z job →
+      (z.closes ≡ [] → Keeps document piece rest z other) → Keeps document piece rest z (cond last (Ended (Unknown job)) other)
+  unknown_keeps job count sent last other h keeps =
+      by_test (Keeps document piece rest z) last _ other (λ _. either_sent job count sent last h) (λ is. keeps (never_closed job count sent last is h))
+
+  -- It was closed with the last piece.
+  stands_sent : (job size count : ℕ) (last printable : Bool) → z.prints ≡ printable → last ≡ true → z.closes ≡ document ∷ [] →
+      Keeps document piece rest z (after_measure job size count last (shown_reply printable Stands))
+  stands_sent job size count last true prints is c =
+      by_test (Keeps document piece rest z) last _ _ (λ _. (c, prints)) (λ other. absurd (true≢false (sym is ∙ other)))
+  stands_sent job size count last false prints is c =
+      by_test (Keeps document piece rest z) last _ _ (λ _. (c, prints)) (λ other. absurd (true≢false (sym is ∙ other)))
+
+  measure_keeps : (job size count : ℕ) (last : Bool) (s : JobFate) → z.fate job ≡ s → (sent : List ℕ) →
+      MayBeSent document sent (last_bytes count piece) last z job →
+      ((z.closes ≡ []) × OpensEither sent (last_bytes count piece) s) ⊎ ((last ≡ true) × (z.closes ≡ document ∷ []) × IsClosed s) →
+      IsSending document sent size (last_bytes count piece) count last rest → Keeps document piece rest z (after_measure job size count last (shown_reply z.prints s))
+  measure_keeps job size count last NotOwn is sent h by g = unknown_keeps job count sent last _ h (λ none. none)
+  measure_keeps job size count last (Arrives bytes) is sent h (inl o) g = measured_keeps job size count last bytes is sent o.0 o.1 g
+  measure_keeps job size count last (Arrives bytes) is sent h (inr o) g = absurd o.2
+  measure_keeps job size count last Stopped is sent h (inl o) g = o.0
+  measure_keeps job size count last Stopped is sent h (inr o) g = absurd o.2
+  measure_keeps job size count last StoppedGone is sent h by g = unknown_keeps job count sent last _ h (λ none. none)
+  measure_keeps job size count last Stands is sent h (inl o) g = absurd o.1
+  measure_keeps job size count last Stands is sent h (inr o) g = stands_sent job size count last z.prints refl o.0 o.1
+  measure_keeps job size count last StandsGone is sent h by g = unknown_keeps job count sent last _ h (λ none. none)
 
   held_keeps : (job size tries : ℕ) (s : JobFate) → Keeps document piece rest z (Holding job size tries) → Keeps document piece rest z (after_hold job size tries (held_reply s))
   held_keeps job size tries NotOwn h = h.0
@@ -441,10 +485,6 @@ module _ (document piece : List ℕ) (rest : List (List ℕ)) (z : Service) wher
   canceled_keeps job cause StoppedGone h = h
   canceled_keeps job cause Stands h = h
   canceled_keeps job cause StandsGone h = h
-
-  accepted_keeps : (job : ℕ) (printable : Bool) → z.prints ≡ printable → z.closes ≡ document ∷ [] → Keeps document piece rest z (accepted job printable)
-  accepted_keeps job true is h = (h, is)
-  accepted_keeps job false is h = (h, is)
 
   stands_keeps : (job size : ℕ) (b : Bool) → z.prints ≡ b → z.closes ≡ document ∷ [] → Keeps document piece rest z (after_check job size (shown_reply b Stands))
   stands_keeps job size true is c = (c, is)
@@ -493,39 +533,89 @@ module _ (document piece : List ℕ) (rest : List (List ℕ)) (z : Service) wher
   unheard_keeps job size tries again StandsGone is o none = absurd o
 
 module _ (document piece : List ℕ) (rest : List (List ℕ)) (z : Service) where
-  -- The service after these bytes were appended to a job.
-  abbrev appended : ℕ → List ℕ → Service
-  appended job bytes = with_fate z (changed z.fate job (grown bytes))
-
-  opens_appended : (job : ℕ) (bytes more sent : List ℕ) → z.fate job ≡ Arrives bytes → bytes ≡ sent → Opens (sent ++ more) ((appended job more).fate job)
+  opens_appended : (job : ℕ) (bytes more sent : List ℕ) → z.fate job ≡ Arrives bytes → bytes ≡ sent → Opens (sent ++ more) ((with_bytes z job more).fate job)
   opens_appended job bytes more sent is o =
       changed_own (Opens (sent ++ more)) z.fate job (grown more) (subst (λ (s : JobFate). Opens (sent ++ more) (grown more s)) (sym is) (ap (λ (b : List ℕ). b ++ more) o))
 
-  -- A piece that is sent.
-  sent_keeps : (job size count tries : ℕ) (s : JobFate) → z.fate job ≡ s → (sent : List ℕ) → z.closes ≡ [] → Opens sent s →
-      IsSending document sent size (last_bytes count piece) count rest →
-      Keeps document piece rest (appended job (last_bytes count piece)) (after_send job size count tries (sent_reply (last_bytes count piece) s))
-  sent_keeps job size count tries NotOwn is sent none o g = none
-  sent_keeps job size count tries (Arrives bytes) is sent none o g =
-      all_sent_keeps document piece rest (appended job (last_bytes count piece)) job size count (length (bytes ++ last_bytes count piece)) sent none
-      (opens_appended job bytes (last_bytes count piece) sent is o) g (ap (λ (b : List ℕ). length (b ++ last_bytes count piece)) o)
-  sent_keeps job size count tries Stopped is sent none o g = none
-  sent_keeps job size count tries StoppedGone is sent none o g = none
-  sent_keeps job size count tries Stands is sent none o g = none
-  sent_keeps job size count tries StandsGone is sent none o g = none
+  -- A part of a piece is sent.
+  part_keeps : (job size count : ℕ) (last : Bool) (tries : ℕ) (part : Part) (s : JobFate) → z.fate job ≡ s → (sent : List ℕ) → z.closes ≡ [] → Opens sent s →
+      IsSending document sent size (last_bytes count piece) count last rest →
+      Keeps document piece rest (with_bytes z job (part_of part (last_bytes count piece)))
+      (after_send job size count last tries (sent_reply (part_of part (last_bytes count piece)) s))
+  part_keeps job size count last tries part NotOwn is sent none o g = none
+  part_keeps job size count last tries part (Arrives bytes) is sent none o g =
+      part_sent_keeps document piece rest (with_bytes z job (part_of part (last_bytes count piece))) job size count (length (bytes ++ part_of part (last_bytes count piece))) last false
+      part sent none (opens_appended job bytes (part_of part (last_bytes count piece)) sent is o) g (ap (λ (b : List ℕ). length (b ++ part_of part (last_bytes count piece))) o)
+  part_keeps job size count last tries part Stopped is sent none o g = none
+  part_keeps job size count last tries part StoppedGone is sent none o g = none
+  part_keeps job size count last tries part Stands is sent none o g = none
+  part_keeps job size count last tries part StandsGone is sent none o g = none
 
-  -- Only one command of a piece is executed.
-  part_keeps : (job size count tries : ℕ) (part : Part) (s : JobFate) → z.fate job ≡ s → (sent : List ℕ) → z.closes ≡ [] → Opens sent s →
-      IsSending document sent size (last_bytes count piece) count rest →
-      Keeps document piece rest (appended job (part_of part (last_bytes count piece))) (after_send job size count tries (sent_reply (part_of part (last_bytes count piece)) s))
-  part_keeps job size count tries part NotOwn is sent none o g = none
-  part_keeps job size count tries part (Arrives bytes) is sent none o g =
-      part_sent_keeps document piece rest (appended job (part_of part (last_bytes count piece))) job size count (length (bytes ++ part_of part (last_bytes count piece))) part sent none
-      (opens_appended job bytes (part_of part (last_bytes count piece)) sent is o) g (ap (λ (b : List ℕ). length (b ++ part_of part (last_bytes count piece))) o)
-  part_keeps job size count tries part Stopped is sent none o g = none
-  part_keeps job size count tries part StoppedGone is sent none o g = none
-  part_keeps job size count tries part Stands is sent none o g = none
-  part_keeps job size count tries part StandsGone is sent none o g = none
+  -- ## The last piece, and a close
+
+  -- The job is incoming, and has the size of the condition then.
+  has_size : (size count : ℕ) (bytes sent : List ℕ) → bytes ≡ sent → IsSending document sent size (last_bytes count piece) count true rest →
+      (length (bytes ++ last_bytes count piece) == size + count) ≡ true
+  has_size size count bytes sent o g =
+      eq-eqb (length (bytes ++ last_bytes count piece)) (size + count)
+      (ap (λ (b : List ℕ). length (b ++ last_bytes count piece)) o ∙ length_sent document sent size (last_bytes count piece) count true rest g)
+
+  -- It is closed with the whole document.
+  last_closes : (job size count : ℕ) (bytes sent : List ℕ) → z.fate job ≡ Arrives bytes → z.closes ≡ [] → bytes ≡ sent →
+      IsSending document sent size (last_bytes count piece) count true rest → (with_last z job (size + count) (last_bytes count piece)).closes ≡ document ∷ []
+  last_closes job size count bytes sent is none o g =
+      let more = last_bytes count piece in
+      ap (λ (s : JobFate). with_close_at (size + count) (grown more s) z.closes) is
+      ∙ ap (λ (b : Bool). cond b (z.closes ++ (bytes ++ more) ∷ []) z.closes) (has_size size count bytes sent o g)
+      ∙ ap (λ (c : List (List ℕ)). c ++ (bytes ++ more) ∷ []) none
+      ∙ ap (λ (m : List ℕ). m ∷ []) (ap (λ (b : List ℕ). b ++ more) o ∙ sent_whole document sent size more count true rest refl g)
+
+  -- Another job is not changed.
+  last_leaves : (job size count : ℕ) (s : JobFate) → z.fate job ≡ s → z.closes ≡ [] → with_close_at (size + count) (grown (last_bytes count piece) s) z.closes ≡ z.closes →
+      (with_last z job (size + count) (last_bytes count piece)).closes ≡ []
+  last_leaves job size count s is none same =
+      ap (λ (s : JobFate). with_close_at (size + count) (grown (last_bytes count piece) s) z.closes) is ∙ same ∙ none
+
+  last_fate : (job size count : ℕ) (s : JobFate) → z.fate job ≡ s →
+      (with_last z job (size + count) (last_bytes count piece)).fate job ≡ closed_at (size + count) (grown (last_bytes count piece) s)
+  last_fate job size count s is =
+      let change : JobFate → JobFate = λ fate. closed_at (size + count) (grown (last_bytes count piece) fate) in
+      changed_here z.fate job change ∙ ap change is
+
+  -- It is unknown whether the commands were executed.
+  last_unheard : (job size count : ℕ) (s : JobFate) → z.fate job ≡ s → (sent : List ℕ) → z.closes ≡ [] → Opens sent s →
+      IsSending document sent size (last_bytes count piece) count true rest →
+      MayBeSent document sent (last_bytes count piece) true (with_last z job (size + count) (last_bytes count piece)) job
+  last_unheard job size count NotOwn is sent none o g =
+      inl (last_leaves job size count NotOwn is none refl, subst (OpensEither sent (last_bytes count piece)) (sym (last_fate job size count NotOwn is)) tt)
+  last_unheard job size count (Arrives bytes) is sent none o g =
+      let stands : (with_last z job (size + count) (last_bytes count piece)).fate job ≡ Stands =
+        last_fate job size count (Arrives bytes) is
+        ∙ ap (λ (b : Bool). cond b Stands (Arrives (bytes ++ last_bytes count piece))) (has_size size count bytes sent o g) in
+      inr (refl, last_closes job size count bytes sent is none o g, subst IsClosed (sym stands) tt)
+  last_unheard job size count Stopped is sent none o g =
+      inl (last_leaves job size count Stopped is none refl, subst (OpensEither sent (last_bytes count piece)) (sym (last_fate job size count Stopped is)) tt)
+  last_unheard job size count StoppedGone is sent none o g =
+      inl (last_leaves job size count StoppedGone is none refl, subst (OpensEither sent (last_bytes count piece)) (sym (last_fate job size count StoppedGone is)) tt)
+  last_unheard job size count Stands is sent none o g = absurd o
+  last_unheard job size count StandsGone is sent none o g = absurd o
+
+  last_keeps : (job size count tries : ℕ) (s : JobFate) → z.fate job ≡ s → (sent : List ℕ) → z.closes ≡ [] → Opens sent s →
+      IsSending document sent size (last_bytes count piece) count true rest →
+      Keeps document piece rest (with_last z job (size + count) (last_bytes count piece))
+      (after_send job size count true tries (last_reply z.prints (size + count) (last_bytes count piece) s))
+  last_keeps job size count tries NotOwn is sent none o g = last_leaves job size count NotOwn is none refl
+  last_keeps job size count tries (Arrives bytes) is sent none o g =
+      let new : Service = with_last z job (size + count) (last_bytes count piece) in
+      subst
+      (λ (b : Bool). Keeps document piece rest new
+      (after_send job size count true tries (cond b (Closed z.prints) (Sent (length (bytes ++ last_bytes count piece))))))
+      (sym (has_size size count bytes sent o g))
+      (accepted_keeps document piece rest new job z.prints refl (last_closes job size count bytes sent is none o g))
+  last_keeps job size count tries Stopped is sent none o g = last_leaves job size count Stopped is none refl
+  last_keeps job size count tries StoppedGone is sent none o g = last_leaves job size count StoppedGone is none refl
+  last_keeps job size count tries Stands is sent none o g = absurd o
+  last_keeps job size count tries StandsGone is sent none o g = absurd o
 
 module _ (document piece : List ℕ) (rest : List (List ℕ)) where
   closing_keeps : (z : Service) (job size tries : ℕ) (again : Bool) (s : JobFate) → z.fate job ≡ s → Opens document s → z.closes ≡ [] →
@@ -544,13 +634,25 @@ module _ (document piece : List ℕ) (rest : List (List ℕ)) where
   heard_keeps z Finding h = found_keeps document piece rest z (arriving z.fate z.given) (arriving_all z.fate z.given) h
   heard_keeps z (Clearing job) h = h
   heard_keeps z (Reading job size) h = h
-  heard_keeps z (Sending job size count tries) h = sent_keeps document piece rest z job size count tries (z.fate job) refl h.0 h.1.0 h.1.1 h.1.2
-  heard_keeps z (Measuring job size count) h = measure_keeps document piece rest z job size count (z.fate job) refl h.0 h.1.0 h.1.1 h.1.2
+  heard_keeps z (Sending job size count false tries) h = part_keeps document piece rest z job size count false tries Both (z.fate job) refl h.0 h.1.0 h.1.1 h.1.2
+  heard_keeps z (Sending job size count true tries) h = last_keeps document piece rest z job size count tries (z.fate job) refl h.0 h.1.0 h.1.1 h.1.2
+  heard_keeps z (Measuring job size count last) h = measure_keeps document piece rest z job size count last (z.fate job) refl h.0 h.1.0 h.1.0 h.1.1
   heard_keeps z (Holding job size tries) h = held_keeps document piece rest z job size tries (z.fate job) h
   heard_keeps z (Closing job size tries again) h = closing_keeps z job size tries again (z.fate job) refl h.1 h.0
   heard_keeps z (Checking job size) h = check_keeps document piece rest z job size (z.fate job) refl h
   heard_keeps z (Canceling job cause) h = canceled_keeps document piece rest (with_fate z (changed z.fate job stopped)) job cause (z.fate job) h
   heard_keeps z (Ended end) h = h
+
+  -- It is unknown whether a part of a piece was sent.
+  part_unheard : (z : Service) (job size count : ℕ) (last : Bool) (part : Part) →
+      ((sent : List ℕ) × ((z.closes ≡ []) × Opens sent (z.fate job) × IsSending document sent size (last_bytes count piece) count last rest)) →
+      Keeps document piece rest (with_bytes z job (part_of part (last_bytes count piece))) (Measuring job size count last)
+  part_unheard z job size count last part h =
+      let bytes = last_bytes count piece in
+      (
+        h.0,
+        (inl (h.1.0, changed_own (OpensEither h.0 bytes) z.fate job (grown (part_of part bytes)) (grown_part h.0 bytes part (z.fate job) h.1.1)), h.1.2),
+      )
 
   -- The request is executed, and its reply is lost.
   lost_keeps : (z : Service) (step : Step) → Keeps document piece rest z step → Keeps document piece rest (served z piece (request step)) (lost step)
@@ -558,10 +660,9 @@ module _ (document piece : List ℕ) (rest : List (List ℕ)) where
   lost_keeps z Finding h = h
   lost_keeps z (Clearing job) h = h
   lost_keeps z (Reading job size) h = h
-  lost_keeps z (Sending job size count tries) h =
-      let bytes = last_bytes count piece in
-      (h.0, (h.1.0, changed_own (OpensEither h.0 bytes) z.fate job (grown bytes) (grown_either h.0 bytes (z.fate job) h.1.1), h.1.2))
-  lost_keeps z (Measuring job size count) h = h
+  lost_keeps z (Sending job size count false tries) h = part_unheard z job size count false Both h
+  lost_keeps z (Sending job size count true tries) h = (h.0, (last_unheard document piece rest z job size count (z.fate job) refl h.0 h.1.0 h.1.1 h.1.2, h.1.2))
+  lost_keeps z (Measuring job size count last) h = h
   lost_keeps z (Holding job size tries) h = h
   lost_keeps z (Closing job size tries again) h = unheard_keeps document piece rest z job size tries again (z.fate job) refl h.1 h.0
   lost_keeps z (Checking job size) h = h
@@ -576,8 +677,8 @@ module _ (document piece : List ℕ) (rest : List (List ℕ)) where
   heard_part_keeps z part Finding h = h
   heard_part_keeps z part (Clearing job) h = h
   heard_part_keeps z part (Reading job size) h = h
-  heard_part_keeps z part (Sending job size count tries) h = part_keeps document piece rest z job size count tries part (z.fate job) refl h.0 h.1.0 h.1.1 h.1.2
-  heard_part_keeps z part (Measuring job size count) h = h
+  heard_part_keeps z part (Sending job size count last tries) h = part_keeps document piece rest z job size count last tries part (z.fate job) refl h.0 h.1.0 h.1.1 h.1.2
+  heard_part_keeps z part (Measuring job size count last) h = h
   heard_part_keeps z part (Holding job size tries) h = h
   heard_part_keeps z part (Closing job size tries again) h = inl h
   heard_part_keeps z part (Checking job size) h = h
@@ -589,10 +690,8 @@ module _ (document piece : List ℕ) (rest : List (List ℕ)) where
   lost_part_keeps z part Finding h = h
   lost_part_keeps z part (Clearing job) h = h
   lost_part_keeps z part (Reading job size) h = h
-  lost_part_keeps z part (Sending job size count tries) h =
-      let bytes = last_bytes count piece in
-      (h.0, (h.1.0, changed_own (OpensEither h.0 bytes) z.fate job (grown (part_of part bytes)) (grown_part h.0 bytes part (z.fate job) h.1.1), h.1.2))
-  lost_part_keeps z part (Measuring job size count) h = h
+  lost_part_keeps z part (Sending job size count last tries) h = part_unheard z job size count last part h
+  lost_part_keeps z part (Measuring job size count last) h = h
   lost_part_keeps z part (Holding job size tries) h = h
   lost_part_keeps z part (Closing job size tries again) h = inl h
   lost_part_keeps z part (Checking job size) h = h
@@ -606,8 +705,8 @@ module _ (document piece : List ℕ) (rest : List (List ℕ)) where
   unserved_keeps z Finding h = h
   unserved_keeps z (Clearing job) h = h
   unserved_keeps z (Reading job size) h = h
-  unserved_keeps z (Sending job size count tries) h = (h.0, (h.1.0, opens_either h.0 (last_bytes count piece) (z.fate job) h.1.1, h.1.2))
-  unserved_keeps z (Measuring job size count) h = h
+  unserved_keeps z (Sending job size count last tries) h = (h.0, (inl (h.1.0, opens_either h.0 (last_bytes count piece) (z.fate job) h.1.1), h.1.2))
+  unserved_keeps z (Measuring job size count last) h = h
   unserved_keeps z (Holding job size tries) h = h
   unserved_keeps z (Closing job size tries again) h = inl h
   unserved_keeps z (Checking job size) h = h
@@ -619,8 +718,8 @@ module _ (document piece : List ℕ) (rest : List (List ℕ)) where
   put_off_keeps z Finding h = h
   put_off_keeps z (Clearing job) h = h
   put_off_keeps z (Reading job size) h = h
-  put_off_keeps z (Sending job size count tries) h = by_test (Keeps document piece rest z) (tries == 0) _ _ (λ _. h.1.0) (λ _. h)
-  put_off_keeps z (Measuring job size count) h = h
+  put_off_keeps z (Sending job size count last tries) h = by_test (Keeps document piece rest z) (tries == 0) _ _ (λ _. h.1.0) (λ _. h)
+  put_off_keeps z (Measuring job size count last) h = h
   put_off_keeps z (Holding job size tries) h = by_test (Keeps document piece rest z) (tries == 0) _ _ (λ _. h.0) (λ _. h)
   put_off_keeps z (Closing job size tries again) h = by_test (Keeps document piece rest z) (tries == 0) _ _ (λ _. h.0) (λ _. h)
   put_off_keeps z (Checking job size) h = h
@@ -637,8 +736,8 @@ module _ (document piece : List ℕ) (rest : List (List ℕ)) where
   denied_keeps z Finding h = h.0
   denied_keeps z (Clearing job) h = h
   denied_keeps z (Reading job size) h = h
-  denied_keeps z (Sending job size count tries) h = h.1.0
-  denied_keeps z (Measuring job size count) h = h.1.0
+  denied_keeps z (Sending job size count last tries) h = h.1.0
+  denied_keeps z (Measuring job size count last) h = unknown_keeps document piece rest z job count h.0 last _ h.1.0 (λ none. none)
   denied_keeps z (Holding job size tries) h = h.0
   denied_keeps z (Closing job size tries again) h = h.0
   denied_keeps z (Checking job size) h = either_closed z job h
@@ -650,8 +749,9 @@ module _ (document piece : List ℕ) (rest : List (List ℕ)) where
   deserted_keeps z Finding h = h.0
   deserted_keeps z (Clearing job) h = h.0
   deserted_keeps z (Reading job size) h = h.1.0
-  deserted_keeps z (Sending job size count tries) h = h.1.0
-  deserted_keeps z (Measuring job size count) h = h.1.0
+  deserted_keeps z (Sending job size count last tries) h = h.1.0
+  deserted_keeps z (Measuring job size count true) h = either_sent document piece rest z job count h.0 true h.1.0
+  deserted_keeps z (Measuring job size count false) h = never_closed document piece rest z job count h.0 false refl h.1.0
   deserted_keeps z (Holding job size tries) h = h.0
   deserted_keeps z (Closing job size tries true) h = inl h.0
   deserted_keeps z (Closing job size tries false) h = h.0
@@ -664,8 +764,8 @@ module _ (document piece : List ℕ) (rest : List (List ℕ)) where
   unread_keeps z Finding h = h
   unread_keeps z (Clearing job) h = h
   unread_keeps z (Reading job size) h = h.1.0
-  unread_keeps z (Sending job size count tries) h = h
-  unread_keeps z (Measuring job size count) h = h
+  unread_keeps z (Sending job size count last tries) h = h
+  unread_keeps z (Measuring job size count last) h = h
   unread_keeps z (Holding job size tries) h = h
   unread_keeps z (Closing job size tries again) h = h
   unread_keeps z (Checking job size) h = h
@@ -680,10 +780,14 @@ module _ (document piece : List ℕ) (rest : List (List ℕ)) where
   gentle_keeps z job change gentle Finding h = h
   gentle_keeps z job change gentle (Clearing other) h = h
   gentle_keeps z job change gentle (Reading own size) h = (h.0, (h.1.0, changed_keeps (Opens h.0) z.fate job change own (gentle.opens h.0) h.1.1, h.1.2))
-  gentle_keeps z job change gentle (Sending own size count tries) h =
+  gentle_keeps z job change gentle (Sending own size count last tries) h =
       (h.0, (h.1.0, changed_keeps (Opens h.0) z.fate job change own (gentle.opens h.0) h.1.1, h.1.2))
-  gentle_keeps z job change gentle (Measuring own size count) h =
-      (h.0, (h.1.0, changed_keeps (OpensEither h.0 (last_bytes count piece)) z.fate job change own (gentle.either h.0 (last_bytes count piece)) h.1.1, h.1.2))
+  gentle_keeps z job change gentle (Measuring own size count last) h = (h.0, (may_be_sent h.1.0, h.1.1))
+    where
+      may_be_sent : MayBeSent document h.0 (last_bytes count piece) last z own →
+          MayBeSent document h.0 (last_bytes count piece) last (with_fate z (changed z.fate job change)) own
+      may_be_sent (inl m) = inl (m.0, changed_keeps (OpensEither h.0 (last_bytes count piece)) z.fate job change own (gentle.either h.0 (last_bytes count piece)) m.1)
+      may_be_sent (inr m) = inr (m.0, m.1, changed_keeps IsClosed z.fate job change own gentle.closed m.2)
   gentle_keeps z job change gentle (Holding own size tries) h = (h.0, changed_keeps (Opens document) z.fate job change own (gentle.opens document) h.1)
   gentle_keeps z job change gentle (Closing own size tries again) h = (h.0, changed_keeps (Opens document) z.fate job change own (gentle.opens document) h.1)
   gentle_keeps z job change gentle (Checking own size) h = may_be_closed h
@@ -705,8 +809,8 @@ module _ (document piece : List ℕ) (rest : List (List ℕ)) where
   numbered_keeps z Finding h = h
   numbered_keeps z (Clearing job) h = h
   numbered_keeps z (Reading job size) h = h
-  numbered_keeps z (Sending job size count tries) h = h
-  numbered_keeps z (Measuring job size count) h = h
+  numbered_keeps z (Sending job size count last tries) h = h
+  numbered_keeps z (Measuring job size count last) h = h
   numbered_keeps z (Holding job size tries) h = h
   numbered_keeps z (Closing job size tries again) h = h
   numbered_keeps z (Checking job size) h = h
@@ -727,8 +831,8 @@ unclear_lost (Creating tries) = refl
 unclear_lost Finding = refl
 unclear_lost (Clearing job) = refl
 unclear_lost (Reading job size) = refl
-unclear_lost (Sending job size count tries) = refl
-unclear_lost (Measuring job size count) = refl
+unclear_lost (Sending job size count last tries) = refl
+unclear_lost (Measuring job size count last) = refl
 unclear_lost (Holding job size tries) = refl
 unclear_lost (Closing job size tries again) = refl
 unclear_lost (Checking job size) = refl
@@ -741,15 +845,22 @@ unclear_lost (Ended end) = refl
 all_bytes : (piece : List ℕ) → last_bytes (length piece) piece ≡ piece
 all_bytes piece = let none : length piece - length piece ≡ 0 = omega arith in ap (λ n. drop n piece) none
 
-pieces_more : (document sent : List ℕ) (size : ℕ) (piece : List ℕ) (rest : List (List ℕ)) → IsLeft document sent size (piece ∷ rest) →
-    IsSending document sent size (last_bytes (length piece) piece) (length piece) rest
-pieces_more document sent size piece rest left =
-    subst (λ (l : List ℕ). IsSending document sent size l (length piece) rest) (sym (all_bytes piece)) (record {
+-- No piece remains after the last one.
+none_more : (end holds : Bool) (rest : List (List ℕ)) → ((end && is_none rest) && not holds) ≡ true → rest ≡ []
+none_more end holds [] e = refl
+none_more true holds (piece ∷ rest) e = absurd (true≢false (sym e))
+none_more false holds (piece ∷ rest) e = absurd (true≢false (sym e))
+
+pieces_more : (document sent : List ℕ) (size : ℕ) (piece : List ℕ) (end holds : Bool) (rest : List (List ℕ)) → IsLeft document sent size (piece ∷ rest) →
+    IsSending document sent size (last_bytes (length piece) piece) (length piece) ((end && is_none rest) && not holds) rest
+pieces_more document sent size piece end holds rest left =
+    subst (λ (l : List ℕ). IsSending document sent size l (length piece) ((end && is_none rest) && not holds) rest) (sym (all_bytes piece)) (record {
       all = append_assoc sent piece (joined rest) ∙ left.all;
       sent_is = left.sent_is;
       piece_is = refl;
       some = left.pieces.0;
       short = left.pieces.1;
+      ends = none_more end holds rest;
       pieces = left.pieces.2;
     })
 
@@ -759,24 +870,24 @@ all_sent document sent size left = sym (append-nil sent) ∙ left.all
 no_empty_piece : (document sent : List ℕ) (size : ℕ) (piece : List ℕ) (rest : List (List ℕ)) → IsLeft document sent size (piece ∷ rest) → length piece ≡ 0 → ⊥
 no_empty_piece document sent size piece rest left e = let more : 0 < length piece = left.pieces.0 in absurd (omega arith)
 
-reads_keep : (document : List ℕ) (w : SubmissionRun) (step : Step) (rest : List (List ℕ)) → Keeps document w.piece rest w.service step → KeepsHistory document (read_at w step rest)
-reads_keep document w (Creating tries) rest h = h
-reads_keep document w Finding rest h = h
-reads_keep document w (Clearing job) rest h = h
-reads_keep document w (Reading job size) [] h =
+reads_keep : (document : List ℕ) (w : SubmissionRun) (end : Bool) (step : Step) (rest : List (List ℕ)) → Keeps document w.piece rest w.service step → KeepsHistory document (read_at w end step rest)
+reads_keep document w end (Creating tries) rest h = h
+reads_keep document w end Finding rest h = h
+reads_keep document w end (Clearing job) rest h = h
+reads_keep document w end (Reading job size) [] h =
     let whole : Opens document (w.service.fate job) = subst (λ (b : List ℕ). Opens b (w.service.fate job)) (all_sent document h.0 size h.1.2) h.1.1 in
     by_test (Keeps document [] [] w.service) w.holds _ _ (λ _. (h.1.0, whole)) (λ _. (h.1.0, whole))
-reads_keep document w (Reading job size) (piece ∷ rest) h =
+reads_keep document w end (Reading job size) (piece ∷ rest) h =
     by_test (Keeps document piece rest w.service) (length piece == 0) _ _
     (λ e. absurd (no_empty_piece document h.0 size piece rest h.1.2 (eqb-true (length piece) 0 e)))
-    (λ _. (h.0, (h.1.0, h.1.1, pieces_more document h.0 size piece rest h.1.2)))
-reads_keep document w (Sending job size count tries) rest h = h
-reads_keep document w (Measuring job size count) rest h = h
-reads_keep document w (Holding job size tries) rest h = h
-reads_keep document w (Closing job size tries again) rest h = h
-reads_keep document w (Checking job size) rest h = h
-reads_keep document w (Canceling job cause) rest h = h
-reads_keep document w (Ended end) rest h = h
+    (λ _. (h.0, (h.1.0, h.1.1, pieces_more document h.0 size piece end w.holds rest h.1.2)))
+reads_keep document w end (Sending job size count last tries) rest h = h
+reads_keep document w end (Measuring job size count last) rest h = h
+reads_keep document w end (Holding job size tries) rest h = h
+reads_keep document w end (Closing job size tries again) rest h = h
+reads_keep document w end (Checking job size) rest h = h
+reads_keep document w end (Canceling job cause) rest h = h
+reads_keep document w end (Ended outcome) rest h = h
 
 -- ## Whole runs
 
@@ -794,7 +905,7 @@ happens_keeps document w LeftUnclear h =
     subst (Keeps document w.piece w.rest w.service) (sym (unclear_lost w.step)) (unserved_keeps document w.piece w.rest w.service w.step h)
 happens_keeps document w PutOff h = put_off_keeps document w.piece w.rest w.service w.step h
 happens_keeps document w TurnedDown h = denied_keeps document w.piece w.rest w.service w.step h
-happens_keeps document w Reads h = reads_keep document w w.step w.rest h
+happens_keeps document w (Reads end) h = reads_keep document w end w.step w.rest h
 happens_keeps document w CannotRead h = unread_keeps document w.piece w.rest w.service w.step h
 happens_keeps document w GivesUp h = deserted_keeps document w.piece w.rest w.service w.step h
 happens_keeps document w (Meanwhile other) h = others_keep document w.piece w.rest w.service w.step other h
@@ -818,8 +929,8 @@ closes_once document piece rest z (Creating tries) h = one_at_most document z.cl
 closes_once document piece rest z Finding h = one_at_most document z.closes (inl h.0)
 closes_once document piece rest z (Clearing job) h = one_at_most document z.closes (inl h.0)
 closes_once document piece rest z (Reading job size) h = one_at_most document z.closes (inl h.1.0)
-closes_once document piece rest z (Sending job size count tries) h = one_at_most document z.closes (inl h.1.0)
-closes_once document piece rest z (Measuring job size count) h = one_at_most document z.closes (inl h.1.0)
+closes_once document piece rest z (Sending job size count last tries) h = one_at_most document z.closes (inl h.1.0)
+closes_once document piece rest z (Measuring job size count last) h = one_at_most document z.closes (either_sent document piece rest z job count h.0 last h.1.0)
 closes_once document piece rest z (Holding job size tries) h = one_at_most document z.closes (inl h.0)
 closes_once document piece rest z (Closing job size tries again) h = one_at_most document z.closes (inl h.0)
 closes_once document piece rest z (Checking job size) h = one_at_most document z.closes (either_closed document piece rest z job h)

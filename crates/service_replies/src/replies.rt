@@ -2,7 +2,7 @@
 ghost use Rattle.std.specs.Prelude.{◌≡◌};
 ghost use Rattle.std.specs.List.{after_first, before_first};
 ghost use Rattle.front_texts.specs.ReplyLines.{is_space};
-ghost use Rattle.service_replies.specs.ServiceReplies.{bytes_as, closed_as, done_as, failed_as, has_reason, is_gone, job_as, reply_as, reply_in, shown_as, shown_of, type_as};
+ghost use Rattle.service_replies.specs.ServiceReplies.{bytes_as, closed_as, closing_reply, done_as, failed_as, has_reason, is_gone, job_as, reply_as, reply_in, shown_as, shown_of, type_as};
 
 use command_lines::job_number;
 use front_submission::{Reply, Shown};
@@ -109,6 +109,18 @@ fn failed_as(word: &str) -> Reply
         return Reply::Unclear;
     }
     Reply::Denied
+}
+
+/// Returns the reply to the last piece of a document, which is sent together with a close on the condition that the job has all bytes. `sent`
+/// is the reply to the piece, and `closed` that to the close.
+pub fn closing_reply(sent: Reply, closed: Reply) -> Reply
+    ensures { result ≡ closing_reply sent closed }
+{
+    match (sent, closed) {
+        (_, Reply::Closed { .. }) => closed,
+        (Reply::Sent { .. }, Reply::Unclear) => closed,
+        _ => sent,
+    }
 }
 
 /// Returns whether the last line of a reply states that the job does not exist.
