@@ -1,5 +1,5 @@
 -- The incoming jobs of a submission at each step. After an accepted job no other one remains.
-use Rattle.std.proofs.Common.{◌≡◌, ℕ, ◌+◌, ◌≤◌, ◌<◌, zero, suc, ◌⊎◌, inl, inr, Bool, true, false, cond, ◌==◌, List, [], ◌∷◌, ◌++◌, length, refl, ap, sym, ◌∙◌, subst, arith, eq-eqb}
+use Rattle.std.proofs.Common.{◌≡◌, ℕ, ◌+◌, ◌≤◌, ◌<◌, zero, suc, ◌⊎◌, inl, inr, Bool, true, false, cond, ◌==◌, ◌&&◌, List, [], ◌∷◌, ◌++◌, length, refl, ap, sym, ◌∙◌, subst, arith, eq-eqb}
 use Rattle.std.proofs.lemmas.Bool.{cases_eq, cases_lt, ne_eqb}
 use Rattle.front_submission.specs.declared.step.Step.{Step}
 use Rattle.front_submission.specs.declared.step.Step.TheVariants.{Creating, Finding, Clearing, Reading, Sending, Measuring, Holding, Closing, Checking, Canceling, Ended}
@@ -9,7 +9,7 @@ use Rattle.front_submission.specs.declared.step.End.TheVariants.{Accepted, Unpri
 use Rattle.front_submission.specs.declared.reply.Own.{Own}
 use Rattle.front_submission.specs.declared.reply.Reply.TheVariants.{Sent, Closed, Later, Denied}
 use Rattle.front_submission.specs.SubmissionSteps.{status, first_of, sent_all, sent_first, request, heard, lost, unread, deserted, own_found, after_send, after_measure, after_hold, after_close, after_check, after_cancel, accepted}
-use Rattle.front_submission.specs.Service.{JobFate, Part, part_of, last_bytes, served_part, reply_to_part, NotOwn, Arrives, Stopped, StoppedGone, Stands, StandsGone, Service, changed, grown, closed, closed_at, stopped, purged, with_fate, with_bytes, with_last, served, arriving_at, arriving, found, sent_reply, last_reply, shown_reply, held_reply, closed_reply, canceled_reply, reply_to, Other, Makes, Cancels, Purges, after_other}
+use Rattle.front_submission.specs.Service.{JobFate, Part, Neither, First, Second, Both, part_of, last_bytes, served_part, reply_to_part, NotOwn, Arrives, Stopped, StoppedGone, Stands, StandsGone, Service, changed, grown, closed, closed_at, stopped, purged, with_fate, with_bytes, with_last, with_send, served, arriving_at, arriving, found, sent_reply, last_reply, send_reply, shown_reply, held_reply, closed_reply, canceled_reply, reply_to, Other, Makes, Cancels, Purges, after_other}
 use Rattle.front_submission.specs.SubmissionRuns.{SubmissionRun, Event, Served, ServedUnheard, ServedUnclear, PartServed, PartServedUnheard, PartServedUnclear, Lost, LeftUnclear, PutOff, TurnedDown, Reads, CannotRead, GivesUp, Meanwhile, read_at, happens, run, start, end_of}
 use Rattle.front_submission.proofs.Keeping.{by_test, unclear_lost}
 
@@ -329,15 +329,31 @@ cancel_owns z job cause StoppedGone = tt
 cancel_owns z job cause Stands = tt
 cancel_owns z job cause StandsGone = tt
 
+-- The commands of a `send` that are executed.
+send_fresh : (z : Service) (job : ℕ) (closes : Bool) (size : ℕ) (bytes : List ℕ) → IsFresh z → IsFresh (with_send z job closes size bytes)
+send_fresh z job true size bytes h =
+    let change : JobFate → JobFate = λ fate. closed_at size (grown bytes fate) in
+    record { beyond = (fresh_changed z job change (last_still size bytes) h).beyond }
+send_fresh z job false size bytes h = fresh_changed z job (grown bytes) (grown_still bytes) h
+
+send_alone : (z : Service) (job : ℕ) (closes : Bool) (size : ℕ) (bytes : List ℕ) → IsAlone z.fate job → IsAlone (with_send z job closes size bytes).fate job
+send_alone z job true size bytes h = alone_changed z.fate job job (λ fate. closed_at size (grown bytes fate)) (last_still size bytes) h
+send_alone z job false size bytes h = alone_changed z.fate job job (grown bytes) (grown_still bytes) h
+
+send_owns : (z : Service) (job size count : ℕ) (last closes : Bool) (tries : ℕ) (bytes : List ℕ) → IsAlone z.fate job →
+    Owns (with_send z job (last && closes) (size + count) bytes) (after_send job size count last tries (send_reply z job (last && closes) (size + count) bytes))
+send_owns z job size count true true tries bytes h = last_owns z job size count tries bytes (z.fate job) refl h
+send_owns z job size count true false tries bytes h =
+    sent_owns (with_bytes z job bytes) job size count true tries bytes (z.fate job) (send_alone z job false (size + count) bytes h)
+send_owns z job size count false closes tries bytes h =
+    sent_owns (with_bytes z job bytes) job size count false tries bytes (z.fate job) (send_alone z job false (size + count) bytes h)
+
 served_fresh : (z : Service) (piece : List ℕ) (step : Step) → IsFresh z → IsFresh (served z piece (request step))
 served_fresh z piece (Creating tries) h = record { beyond = (fresh_made z h).beyond }
 served_fresh z piece Finding h = h
 served_fresh z piece (Clearing job) h = fresh_changed z job stopped stopped_still h
 served_fresh z piece (Reading job size) h = h
-served_fresh z piece (Sending job size count false tries) h = fresh_changed z job (grown (last_bytes count piece)) (grown_still (last_bytes count piece)) h
-served_fresh z piece (Sending job size count true tries) h =
-    let change : JobFate → JobFate = λ fate. closed_at (size + count) (grown (last_bytes count piece) fate) in
-    record { beyond = (fresh_changed z job change (last_still (size + count) (last_bytes count piece)) h).beyond }
+served_fresh z piece (Sending job size count last tries) h = send_fresh z job last (size + count) (last_bytes count piece) h
 served_fresh z piece (Measuring job size count last) h = h
 served_fresh z piece (Holding job size tries) h = h
 served_fresh z piece (Closing job size tries again) h = record { beyond = (fresh_changed z job closed closed_still h).beyond }
@@ -350,10 +366,8 @@ heard_owns z piece (Creating tries) h = alone_made z.fate z.given (λ fate. Arri
 heard_owns z piece Finding h = found_owns z (arriving z.fate z.given) h.fresh refl
 heard_owns z piece (Clearing job) h = tt
 heard_owns z piece (Reading job size) h = h.owns
-heard_owns z piece (Sending job size count false tries) h =
-    let bytes = last_bytes count piece in
-    sent_owns (with_bytes z job bytes) job size count false tries bytes (z.fate job) (alone_changed z.fate job job (grown bytes) (grown_still bytes) h.owns)
-heard_owns z piece (Sending job size count true tries) h = last_owns z job size count tries (last_bytes count piece) (z.fate job) refl h.owns
+heard_owns z piece (Sending job size count false tries) h = send_owns z job size count false true tries (last_bytes count piece) h.owns
+heard_owns z piece (Sending job size count true tries) h = send_owns z job size count true true tries (last_bytes count piece) h.owns
 heard_owns z piece (Measuring job size count last) h = measure_owns z job size count last z.prints (z.fate job) refl h.owns
 heard_owns z piece (Holding job size tries) h = held_owns z job size tries (z.fate job) h.owns
 heard_owns z piece (Closing job size tries again) h = close_owns z piece job size tries again (z.fate job) h.owns
@@ -366,11 +380,7 @@ lost_owns z piece (Creating tries) h = tt
 lost_owns z piece Finding h = tt
 lost_owns z piece (Clearing job) h = tt
 lost_owns z piece (Reading job size) h = h.owns
-lost_owns z piece (Sending job size count false tries) h =
-    alone_changed z.fate job job (grown (last_bytes count piece)) (grown_still (last_bytes count piece)) h.owns
-lost_owns z piece (Sending job size count true tries) h =
-    let change : JobFate → JobFate = λ fate. closed_at (size + count) (grown (last_bytes count piece) fate) in
-    alone_changed z.fate job job change (last_still (size + count) (last_bytes count piece)) h.owns
+lost_owns z piece (Sending job size count last tries) h = send_alone z job last (size + count) (last_bytes count piece) h.owns
 lost_owns z piece (Measuring job size count last) h = h.owns
 lost_owns z piece (Holding job size tries) h = h.owns
 lost_owns z piece (Closing job size tries again) h = alone_changed z.fate job job closed closed_still h.owns
@@ -378,51 +388,67 @@ lost_owns z piece (Checking job size) h = h.owns
 lost_owns z piece (Canceling job cause) h = tt
 lost_owns z piece (Ended end) h = h.owns
 
--- ## One command of a piece
+-- ## Some commands of a `send`
 
-part_fresh : (z : Service) (part : Part) (piece : List ℕ) (step : Step) → IsFresh z → IsFresh (served_part z part piece (request step))
-part_fresh z part piece (Creating tries) h = h
-part_fresh z part piece Finding h = h
-part_fresh z part piece (Clearing job) h = h
-part_fresh z part piece (Reading job size) h = h
-part_fresh z part piece (Sending job size count last tries) h =
-    let bytes = part_of part (last_bytes count piece) in fresh_changed z job (grown bytes) (grown_still bytes) h
-part_fresh z part piece (Measuring job size count last) h = h
-part_fresh z part piece (Holding job size tries) h = h
-part_fresh z part piece (Closing job size tries again) h = h
-part_fresh z part piece (Checking job size) h = h
-part_fresh z part piece (Canceling job cause) h = h
-part_fresh z part piece (Ended end) h = h
+part_fresh : (z : Service) (part : Part) (closes : Bool) (piece : List ℕ) (step : Step) → IsFresh z → IsFresh (served_part z part closes piece (request step))
+part_fresh z part closes piece (Creating tries) h = h
+part_fresh z part closes piece Finding h = h
+part_fresh z part closes piece (Clearing job) h = h
+part_fresh z part closes piece (Reading job size) h = h
+part_fresh z part closes piece (Sending job size count last tries) h = send_fresh z job (last && closes) (size + count) (part_of part (last_bytes count piece)) h
+part_fresh z part closes piece (Measuring job size count last) h = h
+part_fresh z part closes piece (Holding job size tries) h = h
+part_fresh z part closes piece (Closing job size tries again) h = h
+part_fresh z part closes piece (Checking job size) h = h
+part_fresh z part closes piece (Canceling job cause) h = h
+part_fresh z part closes piece (Ended end) h = h
 
-heard_part_owns : (z : Service) (part : Part) (piece : List ℕ) (step : Step) → Owns z step →
-    Owns (served_part z part piece (request step)) (heard step (reply_to_part z part piece (request step)))
-heard_part_owns z part piece (Creating tries) h = tt
-heard_part_owns z part piece Finding h = tt
-heard_part_owns z part piece (Clearing job) h = tt
-heard_part_owns z part piece (Reading job size) h = h
-heard_part_owns z part piece (Sending job size count last tries) h =
-    let bytes = part_of part (last_bytes count piece) in
-    sent_owns (with_bytes z job bytes) job size count last tries bytes (z.fate job) (alone_changed z.fate job job (grown bytes) (grown_still bytes) h)
-heard_part_owns z part piece (Measuring job size count last) h = h
-heard_part_owns z part piece (Holding job size tries) h = h
-heard_part_owns z part piece (Closing job size tries again) h = h
-heard_part_owns z part piece (Checking job size) h = h
-heard_part_owns z part piece (Canceling job cause) h = tt
-heard_part_owns z part piece (Ended end) h = h
+heard_part_owns : (z : Service) (part : Part) (closes : Bool) (piece : List ℕ) (step : Step) → Owns z step →
+    Owns (served_part z part closes piece (request step)) (heard step (reply_to_part z part closes piece (request step)))
+heard_part_owns z part closes piece (Creating tries) h = tt
+heard_part_owns z part closes piece Finding h = tt
+heard_part_owns z part closes piece (Clearing job) h = tt
+heard_part_owns z part closes piece (Reading job size) h = h
+heard_part_owns z Neither closes piece (Sending job size count last tries) h = tt
+heard_part_owns z First closes piece (Sending job size count last tries) h =
+    send_owns z job size count last closes tries (part_of First (last_bytes count piece)) h
+heard_part_owns z Second closes piece (Sending job size count last tries) h =
+    send_owns z job size count last closes tries (part_of Second (last_bytes count piece)) h
+heard_part_owns z Both closes piece (Sending job size count last tries) h = send_owns z job size count last closes tries (last_bytes count piece) h
+heard_part_owns z part closes piece (Measuring job size count last) h = h
+heard_part_owns z part closes piece (Holding job size tries) h = h
+heard_part_owns z part closes piece (Closing job size tries again) h = h
+heard_part_owns z part closes piece (Checking job size) h = h
+heard_part_owns z part closes piece (Canceling job cause) h = tt
+heard_part_owns z part closes piece (Ended end) h = h
 
-lost_part_owns : (z : Service) (part : Part) (piece : List ℕ) (step : Step) → Owns z step → Owns (served_part z part piece (request step)) (lost step)
-lost_part_owns z part piece (Creating tries) h = tt
-lost_part_owns z part piece Finding h = tt
-lost_part_owns z part piece (Clearing job) h = tt
-lost_part_owns z part piece (Reading job size) h = h
-lost_part_owns z part piece (Sending job size count last tries) h =
-    let bytes = part_of part (last_bytes count piece) in alone_changed z.fate job job (grown bytes) (grown_still bytes) h
-lost_part_owns z part piece (Measuring job size count last) h = h
-lost_part_owns z part piece (Holding job size tries) h = h
-lost_part_owns z part piece (Closing job size tries again) h = h
-lost_part_owns z part piece (Checking job size) h = h
-lost_part_owns z part piece (Canceling job cause) h = tt
-lost_part_owns z part piece (Ended end) h = h
+lost_part_owns : (z : Service) (part : Part) (closes : Bool) (piece : List ℕ) (step : Step) → Owns z step → Owns (served_part z part closes piece (request step)) (lost step)
+lost_part_owns z part closes piece (Creating tries) h = tt
+lost_part_owns z part closes piece Finding h = tt
+lost_part_owns z part closes piece (Clearing job) h = tt
+lost_part_owns z part closes piece (Reading job size) h = h
+lost_part_owns z part closes piece (Sending job size count last tries) h =
+    send_alone z job (last && closes) (size + count) (part_of part (last_bytes count piece)) h
+lost_part_owns z part closes piece (Measuring job size count last) h = h
+lost_part_owns z part closes piece (Holding job size tries) h = h
+lost_part_owns z part closes piece (Closing job size tries again) h = h
+lost_part_owns z part closes piece (Checking job size) h = h
+lost_part_owns z part closes piece (Canceling job cause) h = tt
+lost_part_owns z part closes piece (Ended end) h = h
+
+-- If all are refused, a close after them leaves no other job incoming.
+neither_owns : (z : Service) (closes : Bool) (piece : List ℕ) (step : Step) → Owns z step → Owns (served_part z Neither closes piece (request step)) step
+neither_owns z closes piece (Creating tries) h = h
+neither_owns z closes piece Finding h = tt
+neither_owns z closes piece (Clearing job) h = tt
+neither_owns z closes piece (Reading job size) h = h
+neither_owns z closes piece (Sending job size count last tries) h = send_alone z job (last && closes) (size + count) [] h
+neither_owns z closes piece (Measuring job size count last) h = h
+neither_owns z closes piece (Holding job size tries) h = h
+neither_owns z closes piece (Closing job size tries again) h = h
+neither_owns z closes piece (Checking job size) h = h
+neither_owns z closes piece (Canceling job cause) h = tt
+neither_owns z closes piece (Ended end) h = h
 
 -- ## A request that is not executed
 
@@ -557,18 +583,28 @@ happens_owns w ServedUnclear h =
       fresh = served_fresh w.service w.piece w.step h.fresh;
       owns = subst (Owns (served w.service w.piece (request w.step))) (sym (unclear_lost w.step)) (lost_owns w.service w.piece w.step h);
     }
-happens_owns w (PartServed part) h = record { fresh = part_fresh w.service part w.piece w.step h.fresh; owns = heard_part_owns w.service part w.piece w.step h.owns }
-happens_owns w (PartServedUnheard part) h =
-    record { fresh = part_fresh w.service part w.piece w.step h.fresh; owns = lost_part_owns w.service part w.piece w.step h.owns }
-happens_owns w (PartServedUnclear part) h =
+happens_owns w (PartServed part closes) h =
+    record { fresh = part_fresh w.service part closes w.piece w.step h.fresh; owns = heard_part_owns w.service part closes w.piece w.step h.owns }
+happens_owns w (PartServedUnheard part closes) h =
+    record { fresh = part_fresh w.service part closes w.piece w.step h.fresh; owns = lost_part_owns w.service part closes w.piece w.step h.owns }
+happens_owns w (PartServedUnclear part closes) h =
     record {
-      fresh = part_fresh w.service part w.piece w.step h.fresh;
-      owns = subst (Owns (served_part w.service part w.piece (request w.step))) (sym (unclear_lost w.step)) (lost_part_owns w.service part w.piece w.step h.owns);
+      fresh = part_fresh w.service part closes w.piece w.step h.fresh;
+      owns = subst (Owns (served_part w.service part closes w.piece (request w.step))) (sym (unclear_lost w.step))
+          (lost_part_owns w.service part closes w.piece w.step h.owns);
     }
 happens_owns w Lost h = record { fresh = h.fresh; owns = unserved_owns w.service w.step h.owns }
 happens_owns w LeftUnclear h = record { fresh = h.fresh; owns = subst (Owns w.service) (sym (unclear_lost w.step)) (unserved_owns w.service w.step h.owns) }
-happens_owns w PutOff h = record { fresh = h.fresh; owns = put_off_owns w.service w.step h.owns }
-happens_owns w TurnedDown h = record { fresh = h.fresh; owns = denied_owns w.service w.step h.owns }
+happens_owns w (PutOff closes) h =
+    record {
+      fresh = part_fresh w.service Neither closes w.piece w.step h.fresh;
+      owns = put_off_owns (served_part w.service Neither closes w.piece (request w.step)) w.step (neither_owns w.service closes w.piece w.step h.owns);
+    }
+happens_owns w (TurnedDown closes) h =
+    record {
+      fresh = part_fresh w.service Neither closes w.piece w.step h.fresh;
+      owns = denied_owns (served_part w.service Neither closes w.piece (request w.step)) w.step (neither_owns w.service closes w.piece w.step h.owns);
+    }
 happens_owns w (Reads end) h = reads_own w end w.step w.rest h
 happens_owns w CannotRead h = record { fresh = h.fresh; owns = unread_owns w.service w.step h.owns }
 happens_owns w GivesUp h = record { fresh = h.fresh; owns = deserted_owns w.service w.step h.owns }

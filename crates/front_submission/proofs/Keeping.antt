@@ -9,7 +9,7 @@ use Rattle.front_submission.specs.declared.step.End.TheVariants.{Accepted, Unpri
 use Rattle.front_submission.specs.declared.reply.Own.{Own}
 use Rattle.front_submission.specs.declared.reply.Reply.TheVariants.{Sent, Closed, Later, Denied, Unclear}
 use Rattle.front_submission.specs.SubmissionSteps.{status, first_of, sent_first, sent_all, request, heard, lost, unread, deserted, taken, own_found, measured, after_send, after_measure, after_hold, after_close, after_check, after_cancel, accepted}
-use Rattle.front_submission.specs.Service.{JobFate, Part, First, Second, Both, part_of, last_bytes, served_part, reply_to_part, NotOwn, Arrives, Stopped, StoppedGone, Stands, StandsGone, Service, changed, grown, closed, closed_at, stopped, purged, with_close, with_close_at, with_fate, with_bytes, with_last, served, arriving_at, arriving, found, sent_reply, last_reply, shown_reply, held_reply, closed_reply, canceled_reply, reply_to, Other, Makes, Cancels, Purges, after_other}
+use Rattle.front_submission.specs.Service.{JobFate, Part, Neither, First, Second, Both, part_of, last_bytes, served_part, reply_to_part, NotOwn, Arrives, Stopped, StoppedGone, Stands, StandsGone, Service, changed, grown, closed, closed_at, stopped, purged, with_close, with_close_at, with_fate, with_bytes, with_last, with_send, served, arriving_at, arriving, found, sent_reply, last_reply, send_reply, shown_reply, held_reply, closed_reply, canceled_reply, reply_to, Other, Makes, Cancels, Purges, after_other}
 use Rattle.front_submission.specs.SubmissionRuns.{SubmissionRun, Event, Served, ServedUnheard, ServedUnclear, PartServed, PartServedUnheard, PartServedUnclear, Lost, LeftUnclear, PutOff, TurnedDown, Reads, CannotRead, GivesUp, Meanwhile, is_none, read_at, happens, run, ArePieces, most_piece, joined, start, end_of}
 
 -- ## Statements about a job
@@ -23,9 +23,9 @@ Opens sent StoppedGone = Unit {0}
 Opens sent Stands = ⊥
 Opens sent StandsGone = ⊥
 
--- The bytes are those that were sent, and after them none or one part of a piece.
+-- The bytes are those that were sent, and after them a part of a piece.
 abbrev pub IsOneOf : List ℕ → List ℕ → List ℕ → Type 0
-IsOneOf sent more bytes = (bytes ≡ sent) ⊎ ((part : Part) × (bytes ≡ sent ++ part_of part more))
+IsOneOf sent more bytes = (part : Part) × (bytes ≡ sent ++ part_of part more)
 
 -- If the job is incoming, it has one of these contents. It was not closed.
 abbrev pub OpensEither : List ℕ → List ℕ → JobFate → Type 0
@@ -47,7 +47,7 @@ IsClosed StandsGone = Unit {0}
 
 opens_either : (sent more : List ℕ) (s : JobFate) → Opens sent s → OpensEither sent more s
 opens_either sent more NotOwn h = tt
-opens_either sent more (Arrives bytes) h = inl h
+opens_either sent more (Arrives bytes) h = (Neither, h ∙ sym (append-nil sent))
 opens_either sent more Stopped h = tt
 opens_either sent more StoppedGone h = tt
 opens_either sent more Stands h = h
@@ -117,11 +117,19 @@ purged_gently = record { opens = purged_opens; either = purged_either; closed = 
 
 grown_part : (sent piece : List ℕ) (part : Part) (s : JobFate) → Opens sent s → OpensEither sent piece (grown (part_of part piece) s)
 grown_part sent piece part NotOwn h = tt
-grown_part sent piece part (Arrives bytes) h = inr (part, ap (λ (b : List ℕ). b ++ part_of part piece) h)
+grown_part sent piece part (Arrives bytes) h = (part, ap (λ (b : List ℕ). b ++ part_of part piece) h)
 grown_part sent piece part Stopped h = tt
 grown_part sent piece part StoppedGone h = tt
 grown_part sent piece part Stands h = h
 grown_part sent piece part StandsGone h = h
+
+grown_none : (sent : List ℕ) (s : JobFate) → Opens sent s → Opens sent (grown [] s)
+grown_none sent NotOwn h = tt
+grown_none sent (Arrives bytes) h = append-nil bytes ∙ h
+grown_none sent Stopped h = tt
+grown_none sent StoppedGone h = tt
+grown_none sent Stands h = h
+grown_none sent StandsGone h = h
 
 -- A statement that a change preserves for each job is preserved if one job changes.
 changed_keeps : (P : JobFate → Type 0) (fate : ℕ → JobFate) (job : ℕ) (change : JobFate → JobFate) (k : ℕ) →
@@ -248,9 +256,12 @@ length_second piece count e = length-drop 65536 piece ∙ ap (λ n. n - 65536) e
 first_is_all : (piece : List ℕ) (count : ℕ) → length piece ≡ count → first_of count ≡ count → part_of First piece ≡ piece
 first_is_all piece count e all = let short : length piece ≤ 65536 = omega arith in take_all 65536 piece short
 
--- The second command has no bytes if its length is 0.
-second_is_none : (sent piece : List ℕ) → length (part_of Second piece) ≡ 0 → sent ++ part_of Second piece ≡ sent
-second_is_none sent piece none = ap (λ (l : List ℕ). sent ++ l) (no_bytes (part_of Second piece) none) ∙ append-nil sent
+-- A part has no bytes if it changes no length.
+part_is_none : (sent bytes : List ℕ) → length (sent ++ bytes) ≡ length sent → sent ++ bytes ≡ sent
+part_is_none sent bytes same =
+    let sizes : length (sent ++ bytes) ≡ length sent + length bytes = length-append sent bytes in
+    let none : length bytes ≡ 0 = omega arith in
+    ap (λ (l : List ℕ). sent ++ l) (no_bytes bytes none) ∙ append-nil sent
 
 -- The bytes after those of the first command are the last ones of the piece.
 last_of_last : (piece : List ℕ) (count : ℕ) → length (last_bytes count piece) ≡ count → first_of count < count →
@@ -284,12 +295,37 @@ first_left document sent size piece count last rest new g two e =
       pieces = g.pieces;
     }
 
--- The size after the piece.
-length_sent : (document sent : List ℕ) (size : ℕ) (piece : List ℕ) (count : ℕ) (last : Bool) (rest : List (List ℕ)) →
-    IsSending document sent size piece count last rest → length (sent ++ piece) ≡ size + count
-length_sent document sent size piece count last rest g =
-    let sizes : length (sent ++ piece) ≡ length sent + length piece = length-append sent piece in
-    let sent_is = g.sent_is in let piece_is = g.piece_is in omega arith
+-- The number of bytes of a part.
+abbrev pub count_of : Part → ℕ → ℕ
+count_of Neither count = 0
+count_of First count = first_of count
+count_of Second count = count - 65536
+count_of Both count = count
+
+-- The size after a part of the piece.
+length_part : (document sent : List ℕ) (size : ℕ) (piece : List ℕ) (count : ℕ) (last : Bool) (rest : List (List ℕ)) (part : Part) →
+    IsSending document sent size piece count last rest → length (sent ++ part_of part piece) ≡ size + count_of part count
+length_part document sent size piece count last rest part g =
+    length-append sent (part_of part piece) ∙ ap (λ n. n + length (part_of part piece)) g.sent_is ∙ ap (λ n. size + n) (count_is part)
+  where
+    count_is : (part : Part) → length (part_of part piece) ≡ count_of part count
+    count_is Neither = refl
+    count_is First = length_first piece count g.piece_is
+    count_is Second = length_second piece count g.piece_is
+    count_is Both = g.piece_is
+
+-- A part that has as many bytes as the piece is all of it.
+part_is_all : (document sent : List ℕ) (size : ℕ) (piece : List ℕ) (count : ℕ) (last : Bool) (rest : List (List ℕ)) (part : Part) →
+    IsSending document sent size piece count last rest → length (sent ++ part_of part piece) ≡ size + count → part_of part piece ≡ piece
+part_is_all document sent size piece count last rest Neither g e =
+    let is = length_part document sent size piece count last rest Neither g in let some = g.some in absurd (omega arith)
+part_is_all document sent size piece count last rest First g e =
+    let is = length_part document sent size piece count last rest First g in
+    let all : first_of count ≡ count = omega arith in
+    first_is_all piece count g.piece_is all
+part_is_all document sent size piece count last rest Second g e =
+    let is = length_part document sent size piece count last rest Second g in let some = g.some in absurd (omega arith)
+part_is_all document sent size piece count last rest Both g e = refl
 
 module _ (document piece : List ℕ) (rest : List (List ℕ)) (z : Service) where
   -- The job that was found.
@@ -346,86 +382,43 @@ module _ (document piece : List ℕ) (rest : List (List ℕ)) (z : Service) wher
       Opens (sent ++ part_of part (last_bytes count piece)) (z.fate job) → IsSending document sent size (last_bytes count piece) count last rest →
       new ≡ length (sent ++ part_of part (last_bytes count piece)) →
       Keeps document piece rest z (cond (new == size + count) (sent_all job new last again) (sent_first job size count last new))
-  part_sent_keeps job size count new last again First sent none o g e =
+  part_sent_keeps job size count new last again part sent none o g e =
       by_test (Keeps document piece rest z) (new == size + count) _ _
       (λ test. whole (eqb-true new (size + count) test))
-      (λ test. first_keeps job size count new last sent none o g (differ new (size + count) test))
+      (λ test. other part o e (differ new (size + count) test))
     where
       bytes : List ℕ
       bytes = last_bytes count piece
-
-      is : new ≡ size + first_of count
-      is = let sizes : length (sent ++ part_of First bytes) ≡ length sent + length (part_of First bytes) = length-append sent (part_of First bytes) in
-          let first_is = length_first bytes count g.piece_is in let sent_is = g.sent_is in omega arith
 
       whole : new ≡ size + count → Keeps document piece rest z (sent_all job new last again)
       whole test =
-          let at = is in
-          let all : first_of count ≡ count = omega arith in
-          let same = first_is_all bytes count g.piece_is all in
+          let same = part_is_all document sent size bytes count last rest part g (sym e ∙ test) in
           whole_keeps job size count last again sent none (subst (λ (l : List ℕ). Opens (sent ++ l) (z.fate job)) same o) g new (sym (e ∙ ap (λ (l : List ℕ). length (sent ++ l)) same))
-  part_sent_keeps job size count new last again Second sent none o g e =
-      by_test (Keeps document piece rest z) (new == size + count) _ _
-      (λ test. absurd (not_whole (eqb-true new (size + count) test)))
-      (λ _. not_first job size count new last none not_as_first)
-    where
-      bytes : List ℕ
-      bytes = last_bytes count piece
 
-      is : new ≡ size + (count - 65536)
-      is = let sizes : length (sent ++ part_of Second bytes) ≡ length sent + length (part_of Second bytes) = length-append sent (part_of Second bytes) in
-          let second_is = length_second bytes count g.piece_is in let sent_is = g.sent_is in omega arith
-
-      not_whole : new ≡ size + count → ⊥
-      not_whole test = let at = is in let some = g.some in absurd (omega arith)
-
-      not_as_first : new ≡ size + first_of count → ⊥
-      not_as_first test = let at = is in let some = g.some in let short = g.short in absurd (omega arith)
-  part_sent_keeps job size count new last again Both sent none o g e =
-      by_test (Keeps document piece rest z) (new == size + count) _ _
-      (λ _. whole_keeps job size count last again sent none o g new (sym e))
-      (λ test. absurd (differ new (size + count) test (e ∙ length_sent document sent size (last_bytes count piece) count last rest g)))
+      other : (part : Part) → Opens (sent ++ part_of part bytes) (z.fate job) → new ≡ length (sent ++ part_of part bytes) → (new ≡ size + count → ⊥) →
+          Keeps document piece rest z (sent_first job size count last new)
+      other Neither o e not_all =
+          let at = e ∙ length_part document sent size bytes count last rest Neither g in
+          let some = g.some in
+          not_first job size count new last none (λ test. absurd (omega arith))
+      other First o e not_all = first_keeps job size count new last sent none o g not_all
+      other Second o e not_all =
+          let at = e ∙ length_part document sent size bytes count last rest Second g in
+          let some = g.some in let short = g.short in
+          not_first job size count new last none (λ test. absurd (omega arith))
+      other Both o e not_all = absurd (not_all (e ∙ length_part document sent size bytes count last rest Both g))
 
   -- The size of a job that may have a part of the piece.
   measured_keeps : (job size count : ℕ) (last : Bool) (bytes : List ℕ) → z.fate job ≡ Arrives bytes → (sent : List ℕ) → z.closes ≡ [] →
       IsOneOf sent (last_bytes count piece) bytes → IsSending document sent size (last_bytes count piece) count last rest →
       Keeps document piece rest z (measured job size count last (length bytes))
-  measured_keeps job size count last bytes is sent none (inl o) g =
+  measured_keeps job size count last bytes is sent none (part, o) g =
       by_test (Keeps document piece rest z) (length bytes == size) _ _
-      (λ _. (sent, (none, subst (Opens sent) (sym is) o, g)))
-      (λ test. absurd (differ (length bytes) size test (ap length o ∙ g.sent_is)))
-  measured_keeps job size count last bytes is sent none (inr (First, o)) g =
-      by_test (Keeps document piece rest z) (length bytes == size) _ _
-      (λ test. absurd (longer (eqb-true (length bytes) size test)))
-      (λ _. part_sent_keeps job size count (length bytes) last true First sent none (subst (Opens (sent ++ part_of First (last_bytes count piece))) (sym is) o) g (ap length o))
+      (λ test. (sent, (none, subst (Opens sent) (sym is) (o ∙ part_is_none sent (part_of part (last_bytes count piece)) (same (eqb-true (length bytes) size test))), g)))
+      (λ _. part_sent_keeps job size count (length bytes) last true part sent none (subst (Opens (sent ++ part_of part (last_bytes count piece))) (sym is) o) g (ap length o))
     where
-      longer : length bytes ≡ size → ⊥
-      longer test =
-          let part = part_of First (last_bytes count piece) in
-          let sizes : length (sent ++ part) ≡ length sent + length part = length-append sent part in
-          let same : length bytes ≡ length (sent ++ part) = ap length o in
-          let first_is = length_first (last_bytes count piece) count g.piece_is in
-          let sent_is = g.sent_is in let some = g.some in absurd (omega arith)
-  measured_keeps job size count last bytes is sent none (inr (Second, o)) g =
-      by_test (Keeps document piece rest z) (length bytes == size) _ _
-      (λ test. (sent, (none, subst (Opens sent) (sym is) (o ∙ second_is_none sent (last_bytes count piece) (nothing (eqb-true (length bytes) size test))), g)))
-      (λ _. part_sent_keeps job size count (length bytes) last true Second sent none (subst (Opens (sent ++ part_of Second (last_bytes count piece))) (sym is) o) g (ap length o))
-    where
-      nothing : length bytes ≡ size → length (part_of Second (last_bytes count piece)) ≡ 0
-      nothing test =
-          let part = part_of Second (last_bytes count piece) in
-          let sizes : length (sent ++ part) ≡ length sent + length part = length-append sent part in
-          let same : length bytes ≡ length (sent ++ part) = ap length o in
-          let sent_is = g.sent_is in omega arith
-  measured_keeps job size count last bytes is sent none (inr (Both, o)) g =
-      by_test (Keeps document piece rest z) (length bytes == size) _ _
-      (λ test. absurd (longer (eqb-true (length bytes) size test)))
-      (λ _. part_sent_keeps job size count (length bytes) last true Both sent none (subst (Opens (sent ++ last_bytes count piece)) (sym is) o) g (ap length o))
-    where
-      longer : length bytes ≡ size → ⊥
-      longer test =
-          let whole : length bytes ≡ size + count = ap length o ∙ length_sent document sent size (last_bytes count piece) count last rest g in
-          let some = g.some in absurd (omega arith)
+      same : length bytes ≡ size → length (sent ++ part_of part (last_bytes count piece)) ≡ length sent
+      same test = sym (ap length o) ∙ test ∙ sym g.sent_is
 
   accepted_keeps : (job : ℕ) (printable : Bool) → z.prints ≡ printable → z.closes ≡ document ∷ [] → Keeps document piece rest z (accepted job printable)
   accepted_keeps job true is h = (h, is)
@@ -551,71 +544,141 @@ module _ (document piece : List ℕ) (rest : List (List ℕ)) (z : Service) wher
   part_keeps job size count last tries part Stands is sent none o g = none
   part_keeps job size count last tries part StandsGone is sent none o g = none
 
-  -- ## The last piece, and a close
+  bytes_unheard : (job size count : ℕ) (last : Bool) (part : Part) →
+      ((sent : List ℕ) × ((z.closes ≡ []) × Opens sent (z.fate job) × IsSending document sent size (last_bytes count piece) count last rest)) →
+      Keeps document piece rest (with_bytes z job (part_of part (last_bytes count piece))) (Measuring job size count last)
+  bytes_unheard job size count last part h =
+      let bytes = last_bytes count piece in
+      (
+        h.0,
+        (inl (h.1.0, changed_own (OpensEither h.0 bytes) z.fate job (grown (part_of part bytes)) (grown_part h.0 bytes part (z.fate job) h.1.1)), h.1.2),
+      )
 
-  -- The job is incoming, and has the size of the condition then.
-  has_size : (size count : ℕ) (bytes sent : List ℕ) → bytes ≡ sent → IsSending document sent size (last_bytes count piece) count true rest →
-      (length (bytes ++ last_bytes count piece) == size + count) ≡ true
-  has_size size count bytes sent o g =
-      eq-eqb (length (bytes ++ last_bytes count piece)) (size + count)
-      (ap (λ (b : List ℕ). length (b ++ last_bytes count piece)) o ∙ length_sent document sent size (last_bytes count piece) count true rest g)
+  -- ## A part of the last piece, and a close
 
-  -- It is closed with the whole document.
-  last_closes : (job size count : ℕ) (bytes sent : List ℕ) → z.fate job ≡ Arrives bytes → z.closes ≡ [] → bytes ≡ sent →
-      IsSending document sent size (last_bytes count piece) count true rest → (with_last z job (size + count) (last_bytes count piece)).closes ≡ document ∷ []
-  last_closes job size count bytes sent is none o g =
+  -- The job is closed with the whole document if the size is that of the condition,
+  last_closes : (job size count : ℕ) (part : Part) (bytes sent : List ℕ) → z.fate job ≡ Arrives bytes → z.closes ≡ [] → bytes ≡ sent →
+      IsSending document sent size (last_bytes count piece) count true rest →
+      (length (bytes ++ part_of part (last_bytes count piece)) == size + count) ≡ true →
+      (with_last z job (size + count) (part_of part (last_bytes count piece))).closes ≡ document ∷ []
+  last_closes job size count part bytes sent is none o g test =
       let more = last_bytes count piece in
-      ap (λ (s : JobFate). with_close_at (size + count) (grown more s) z.closes) is
-      ∙ ap (λ (b : Bool). cond b (z.closes ++ (bytes ++ more) ∷ []) z.closes) (has_size size count bytes sent o g)
-      ∙ ap (λ (c : List (List ℕ)). c ++ (bytes ++ more) ∷ []) none
-      ∙ ap (λ (m : List ℕ). m ∷ []) (ap (λ (b : List ℕ). b ++ more) o ∙ sent_whole document sent size more count true rest refl g)
+      let new = bytes ++ part_of part more in
+      let fits : length (sent ++ part_of part more) ≡ size + count =
+        sym (ap (λ (b : List ℕ). length (b ++ part_of part more)) o) ∙ eqb-true (length new) (size + count) test in
+      ap (λ (s : JobFate). with_close_at (size + count) (grown (part_of part more) s) z.closes) is
+      ∙ ap (λ (b : Bool). cond b (z.closes ++ new ∷ []) z.closes) test
+      ∙ ap (λ (c : List (List ℕ)). c ++ new ∷ []) none
+      ∙ ap (λ (m : List ℕ). m ∷ [])
+      (ap (λ (b : List ℕ). b ++ part_of part more) o
+      ∙ ap (λ (l : List ℕ). sent ++ l) (part_is_all document sent size more count true rest part g fits)
+      ∙ sent_whole document sent size more count true rest refl g)
+
+  -- and otherwise it is not closed.
+  last_stays : (job size count : ℕ) (part : Part) (bytes : List ℕ) → z.fate job ≡ Arrives bytes → z.closes ≡ [] →
+      (length (bytes ++ part_of part (last_bytes count piece)) == size + count) ≡ false →
+      (with_last z job (size + count) (part_of part (last_bytes count piece))).closes ≡ []
+  last_stays job size count part bytes is none test =
+      let new = bytes ++ part_of part (last_bytes count piece) in
+      ap (λ (s : JobFate). with_close_at (size + count) (grown (part_of part (last_bytes count piece)) s) z.closes) is
+      ∙ ap (λ (b : Bool). cond b (z.closes ++ new ∷ []) z.closes) test ∙ none
 
   -- Another job is not changed.
-  last_leaves : (job size count : ℕ) (s : JobFate) → z.fate job ≡ s → z.closes ≡ [] → with_close_at (size + count) (grown (last_bytes count piece) s) z.closes ≡ z.closes →
-      (with_last z job (size + count) (last_bytes count piece)).closes ≡ []
-  last_leaves job size count s is none same =
-      ap (λ (s : JobFate). with_close_at (size + count) (grown (last_bytes count piece) s) z.closes) is ∙ same ∙ none
+  last_leaves : (job size count : ℕ) (part : Part) (s : JobFate) → z.fate job ≡ s → z.closes ≡ [] →
+      with_close_at (size + count) (grown (part_of part (last_bytes count piece)) s) z.closes ≡ z.closes →
+      (with_last z job (size + count) (part_of part (last_bytes count piece))).closes ≡ []
+  last_leaves job size count part s is none same =
+      ap (λ (s : JobFate). with_close_at (size + count) (grown (part_of part (last_bytes count piece)) s) z.closes) is ∙ same ∙ none
 
-  last_fate : (job size count : ℕ) (s : JobFate) → z.fate job ≡ s →
-      (with_last z job (size + count) (last_bytes count piece)).fate job ≡ closed_at (size + count) (grown (last_bytes count piece) s)
-  last_fate job size count s is =
-      let change : JobFate → JobFate = λ fate. closed_at (size + count) (grown (last_bytes count piece) fate) in
+  last_fate : (job size count : ℕ) (part : Part) (s : JobFate) → z.fate job ≡ s →
+      (with_last z job (size + count) (part_of part (last_bytes count piece))).fate job ≡ closed_at (size + count) (grown (part_of part (last_bytes count piece)) s)
+  last_fate job size count part s is =
+      let change : JobFate → JobFate = λ fate. closed_at (size + count) (grown (part_of part (last_bytes count piece)) fate) in
       changed_here z.fate job change ∙ ap change is
 
-  -- It is unknown whether the commands were executed.
-  last_unheard : (job size count : ℕ) (s : JobFate) → z.fate job ≡ s → (sent : List ℕ) → z.closes ≡ [] → Opens sent s →
-      IsSending document sent size (last_bytes count piece) count true rest →
-      MayBeSent document sent (last_bytes count piece) true (with_last z job (size + count) (last_bytes count piece)) job
-  last_unheard job size count NotOwn is sent none o g =
-      inl (last_leaves job size count NotOwn is none refl, subst (OpensEither sent (last_bytes count piece)) (sym (last_fate job size count NotOwn is)) tt)
-  last_unheard job size count (Arrives bytes) is sent none o g =
-      let stands : (with_last z job (size + count) (last_bytes count piece)).fate job ≡ Stands =
-        last_fate job size count (Arrives bytes) is
-        ∙ ap (λ (b : Bool). cond b Stands (Arrives (bytes ++ last_bytes count piece))) (has_size size count bytes sent o g) in
-      inr (refl, last_closes job size count bytes sent is none o g, subst IsClosed (sym stands) tt)
-  last_unheard job size count Stopped is sent none o g =
-      inl (last_leaves job size count Stopped is none refl, subst (OpensEither sent (last_bytes count piece)) (sym (last_fate job size count Stopped is)) tt)
-  last_unheard job size count StoppedGone is sent none o g =
-      inl (last_leaves job size count StoppedGone is none refl, subst (OpensEither sent (last_bytes count piece)) (sym (last_fate job size count StoppedGone is)) tt)
-  last_unheard job size count Stands is sent none o g = absurd o
-  last_unheard job size count StandsGone is sent none o g = absurd o
+  last_fate_at : (job size count : ℕ) (part : Part) (bytes : List ℕ) (fits : Bool) → z.fate job ≡ Arrives bytes →
+      (length (bytes ++ part_of part (last_bytes count piece)) == size + count) ≡ fits →
+      (with_last z job (size + count) (part_of part (last_bytes count piece))).fate job ≡ cond fits Stands (Arrives (bytes ++ part_of part (last_bytes count piece)))
+  last_fate_at job size count part bytes fits is test =
+      last_fate job size count part (Arrives bytes) is
+      ∙ ap (λ (b : Bool). cond b Stands (Arrives (bytes ++ part_of part (last_bytes count piece)))) test
 
-  last_keeps : (job size count tries : ℕ) (s : JobFate) → z.fate job ≡ s → (sent : List ℕ) → z.closes ≡ [] → Opens sent s →
+  -- It is unknown which commands were executed.
+  last_unheard : (job size count : ℕ) (part : Part) (s : JobFate) → z.fate job ≡ s → (sent : List ℕ) → z.closes ≡ [] → Opens sent s →
       IsSending document sent size (last_bytes count piece) count true rest →
-      Keeps document piece rest (with_last z job (size + count) (last_bytes count piece))
-      (after_send job size count true tries (last_reply z.prints (size + count) (last_bytes count piece) s))
-  last_keeps job size count tries NotOwn is sent none o g = last_leaves job size count NotOwn is none refl
-  last_keeps job size count tries (Arrives bytes) is sent none o g =
-      let new : Service = with_last z job (size + count) (last_bytes count piece) in
-      subst
-      (λ (b : Bool). Keeps document piece rest new
-      (after_send job size count true tries (cond b (Closed z.prints) (Sent (length (bytes ++ last_bytes count piece))))))
-      (sym (has_size size count bytes sent o g))
-      (accepted_keeps document piece rest new job z.prints refl (last_closes job size count bytes sent is none o g))
-  last_keeps job size count tries Stopped is sent none o g = last_leaves job size count Stopped is none refl
-  last_keeps job size count tries StoppedGone is sent none o g = last_leaves job size count StoppedGone is none refl
-  last_keeps job size count tries Stands is sent none o g = absurd o
-  last_keeps job size count tries StandsGone is sent none o g = absurd o
+      MayBeSent document sent (last_bytes count piece) true (with_last z job (size + count) (part_of part (last_bytes count piece))) job
+  last_unheard job size count part NotOwn is sent none o g =
+      inl (last_leaves job size count part NotOwn is none refl, subst (OpensEither sent (last_bytes count piece)) (sym (last_fate job size count part NotOwn is)) tt)
+  last_unheard job size count part (Arrives bytes) is sent none o g = by_size (length (bytes ++ part_of part (last_bytes count piece)) == size + count) refl
+    where
+      by_size : (fits : Bool) → (length (bytes ++ part_of part (last_bytes count piece)) == size + count) ≡ fits →
+          MayBeSent document sent (last_bytes count piece) true (with_last z job (size + count) (part_of part (last_bytes count piece))) job
+      by_size true test =
+          inr (refl, last_closes job size count part bytes sent is none o g test, subst IsClosed (sym (last_fate_at job size count part bytes true is test)) tt)
+      by_size false test =
+          inl (
+            last_stays job size count part bytes is none test,
+            subst (OpensEither sent (last_bytes count piece)) (sym (last_fate_at job size count part bytes false is test))
+            (part, ap (λ (b : List ℕ). b ++ part_of part (last_bytes count piece)) o),
+          )
+  last_unheard job size count part Stopped is sent none o g =
+      inl (last_leaves job size count part Stopped is none refl, subst (OpensEither sent (last_bytes count piece)) (sym (last_fate job size count part Stopped is)) tt)
+  last_unheard job size count part StoppedGone is sent none o g =
+      inl (last_leaves job size count part StoppedGone is none refl, subst (OpensEither sent (last_bytes count piece)) (sym (last_fate job size count part StoppedGone is)) tt)
+  last_unheard job size count part Stands is sent none o g = absurd o
+  last_unheard job size count part StandsGone is sent none o g = absurd o
+
+  last_keeps : (job size count tries : ℕ) (part : Part) (s : JobFate) → z.fate job ≡ s → (sent : List ℕ) → z.closes ≡ [] → Opens sent s →
+      IsSending document sent size (last_bytes count piece) count true rest →
+      Keeps document piece rest (with_last z job (size + count) (part_of part (last_bytes count piece)))
+      (after_send job size count true tries (last_reply z.prints (size + count) (part_of part (last_bytes count piece)) s))
+  last_keeps job size count tries part NotOwn is sent none o g = last_leaves job size count part NotOwn is none refl
+  last_keeps job size count tries part (Arrives bytes) is sent none o g = by_size (length (bytes ++ part_of part (last_bytes count piece)) == size + count) refl
+    where
+      more : List ℕ
+      more = part_of part (last_bytes count piece)
+
+      new : Service
+      new = with_last z job (size + count) more
+
+      by_size : (fits : Bool) → (length (bytes ++ more) == size + count) ≡ fits →
+          Keeps document piece rest new (after_send job size count true tries (cond fits (Closed z.prints) (Sent (length (bytes ++ more)))))
+      by_size true test = accepted_keeps document piece rest new job z.prints refl (last_closes job size count part bytes sent is none o g test)
+      by_size false test =
+          let grown_is : bytes ++ more ≡ sent ++ more = ap (λ (b : List ℕ). b ++ more) o in
+          part_sent_keeps document piece rest new job size count (length (bytes ++ more)) true false part sent (last_stays job size count part bytes is none test)
+          (subst (Opens (sent ++ more)) (sym (last_fate_at job size count part bytes false is test)) grown_is) g (ap length grown_is)
+  last_keeps job size count tries part Stopped is sent none o g = last_leaves job size count part Stopped is none refl
+  last_keeps job size count tries part StoppedGone is sent none o g = last_leaves job size count part StoppedGone is none refl
+  last_keeps job size count tries part Stands is sent none o g = absurd o
+  last_keeps job size count tries part StandsGone is sent none o g = absurd o
+
+  -- A close has no effect if no command before it was executed.
+  close_alone : (job size count : ℕ) (s : JobFate) → z.fate job ≡ s → (sent : List ℕ) → z.closes ≡ [] → Opens sent s →
+      IsSending document sent size (last_bytes count piece) count true rest →
+      ((with_last z job (size + count) []).closes ≡ []) × Opens sent ((with_last z job (size + count) []).fate job)
+  close_alone job size count NotOwn is sent none o g =
+      (last_leaves job size count Neither NotOwn is none refl, subst (Opens sent) (sym (last_fate job size count Neither NotOwn is)) tt)
+  close_alone job size count (Arrives bytes) is sent none o g = by_size (length (bytes ++ []) == size + count) refl
+    where
+      by_size : (fits : Bool) → (length (bytes ++ []) == size + count) ≡ fits →
+          ((with_last z job (size + count) []).closes ≡ []) × Opens sent ((with_last z job (size + count) []).fate job)
+      by_size true test =
+          let fits : length (bytes ++ []) ≡ size + count = eqb-true (length (bytes ++ [])) (size + count) test in
+          let sizes : length (bytes ++ []) ≡ length bytes = ap length (append-nil bytes) in
+          let at : length bytes ≡ size = ap length o ∙ g.sent_is in
+          let some = g.some in
+          absurd (omega arith)
+      by_size false test = (
+        last_stays job size count Neither bytes is none test,
+        subst (Opens sent) (sym (last_fate_at job size count Neither bytes false is test)) (append-nil bytes ∙ o),
+      )
+  close_alone job size count Stopped is sent none o g =
+      (last_leaves job size count Neither Stopped is none refl, subst (Opens sent) (sym (last_fate job size count Neither Stopped is)) tt)
+  close_alone job size count StoppedGone is sent none o g =
+      (last_leaves job size count Neither StoppedGone is none refl, subst (Opens sent) (sym (last_fate job size count Neither StoppedGone is)) tt)
+  close_alone job size count Stands is sent none o g = absurd o
+  close_alone job size count StandsGone is sent none o g = absurd o
 
 module _ (document piece : List ℕ) (rest : List (List ℕ)) where
   closing_keeps : (z : Service) (job size tries : ℕ) (again : Bool) (s : JobFate) → z.fate job ≡ s → Opens document s → z.closes ≡ [] →
@@ -635,7 +698,7 @@ module _ (document piece : List ℕ) (rest : List (List ℕ)) where
   heard_keeps z (Clearing job) h = h
   heard_keeps z (Reading job size) h = h
   heard_keeps z (Sending job size count false tries) h = part_keeps document piece rest z job size count false tries Both (z.fate job) refl h.0 h.1.0 h.1.1 h.1.2
-  heard_keeps z (Sending job size count true tries) h = last_keeps document piece rest z job size count tries (z.fate job) refl h.0 h.1.0 h.1.1 h.1.2
+  heard_keeps z (Sending job size count true tries) h = last_keeps document piece rest z job size count tries Both (z.fate job) refl h.0 h.1.0 h.1.1 h.1.2
   heard_keeps z (Measuring job size count last) h = measure_keeps document piece rest z job size count last (z.fate job) refl h.0 h.1.0 h.1.0 h.1.1
   heard_keeps z (Holding job size tries) h = held_keeps document piece rest z job size tries (z.fate job) h
   heard_keeps z (Closing job size tries again) h = closing_keeps z job size tries again (z.fate job) refl h.1 h.0
@@ -643,16 +706,13 @@ module _ (document piece : List ℕ) (rest : List (List ℕ)) where
   heard_keeps z (Canceling job cause) h = canceled_keeps document piece rest (with_fate z (changed z.fate job stopped)) job cause (z.fate job) h
   heard_keeps z (Ended end) h = h
 
-  -- It is unknown whether a part of a piece was sent.
-  part_unheard : (z : Service) (job size count : ℕ) (last : Bool) (part : Part) →
+  -- It is unknown which commands of a `send` were executed.
+  send_unheard : (z : Service) (job size count : ℕ) (last closes : Bool) (part : Part) →
       ((sent : List ℕ) × ((z.closes ≡ []) × Opens sent (z.fate job) × IsSending document sent size (last_bytes count piece) count last rest)) →
-      Keeps document piece rest (with_bytes z job (part_of part (last_bytes count piece))) (Measuring job size count last)
-  part_unheard z job size count last part h =
-      let bytes = last_bytes count piece in
-      (
-        h.0,
-        (inl (h.1.0, changed_own (OpensEither h.0 bytes) z.fate job (grown (part_of part bytes)) (grown_part h.0 bytes part (z.fate job) h.1.1)), h.1.2),
-      )
+      Keeps document piece rest (with_send z job (last && closes) (size + count) (part_of part (last_bytes count piece))) (Measuring job size count last)
+  send_unheard z job size count true true part h = (h.0, (last_unheard document piece rest z job size count part (z.fate job) refl h.0 h.1.0 h.1.1 h.1.2, h.1.2))
+  send_unheard z job size count true false part h = bytes_unheard document piece rest z job size count true part h
+  send_unheard z job size count false closes part h = bytes_unheard document piece rest z job size count false part h
 
   -- The request is executed, and its reply is lost.
   lost_keeps : (z : Service) (step : Step) → Keeps document piece rest z step → Keeps document piece rest (served z piece (request step)) (lost step)
@@ -660,8 +720,8 @@ module _ (document piece : List ℕ) (rest : List (List ℕ)) where
   lost_keeps z Finding h = h
   lost_keeps z (Clearing job) h = h
   lost_keeps z (Reading job size) h = h
-  lost_keeps z (Sending job size count false tries) h = part_unheard z job size count false Both h
-  lost_keeps z (Sending job size count true tries) h = (h.0, (last_unheard document piece rest z job size count (z.fate job) refl h.0 h.1.0 h.1.1 h.1.2, h.1.2))
+  lost_keeps z (Sending job size count false tries) h = send_unheard z job size count false true Both h
+  lost_keeps z (Sending job size count true tries) h = send_unheard z job size count true true Both h
   lost_keeps z (Measuring job size count last) h = h
   lost_keeps z (Holding job size tries) h = h
   lost_keeps z (Closing job size tries again) h = unheard_keeps document piece rest z job size tries again (z.fate job) refl h.1 h.0
@@ -669,34 +729,72 @@ module _ (document piece : List ℕ) (rest : List (List ℕ)) where
   lost_keeps z (Canceling job cause) h = h
   lost_keeps z (Ended end) h = h
 
-  -- ## One command of a piece
+  -- ## Some commands of a `send`
 
-  heard_part_keeps : (z : Service) (part : Part) (step : Step) → Keeps document piece rest z step →
-      Keeps document piece rest (served_part z part piece (request step)) (heard step (reply_to_part z part piece (request step)))
-  heard_part_keeps z part (Creating tries) h = h
-  heard_part_keeps z part Finding h = h
-  heard_part_keeps z part (Clearing job) h = h
-  heard_part_keeps z part (Reading job size) h = h
-  heard_part_keeps z part (Sending job size count last tries) h = part_keeps document piece rest z job size count last tries part (z.fate job) refl h.0 h.1.0 h.1.1 h.1.2
-  heard_part_keeps z part (Measuring job size count last) h = h
-  heard_part_keeps z part (Holding job size tries) h = h
-  heard_part_keeps z part (Closing job size tries again) h = inl h
-  heard_part_keeps z part (Checking job size) h = h
-  heard_part_keeps z part (Canceling job cause) h = h
-  heard_part_keeps z part (Ended end) h = h
+  -- If all are refused, a close after them has no effect.
+  neither_keeps : (z : Service) (closes : Bool) (step : Step) → Keeps document piece rest z step →
+      Keeps document piece rest (served_part z Neither closes piece (request step)) step
+  neither_keeps z closes (Creating tries) h = h
+  neither_keeps z closes Finding h = h
+  neither_keeps z closes (Clearing job) h = h
+  neither_keeps z closes (Reading job size) h = h
+  neither_keeps z closes (Sending job size count last tries) h = send_neither last closes h
+    where
+      none_sent : (last : Bool) → Keeps document piece rest z (Sending job size count last tries) →
+          Keeps document piece rest (with_bytes z job []) (Sending job size count last tries)
+      none_sent last h = (h.0, (h.1.0, changed_own (Opens h.0) z.fate job (grown []) (grown_none h.0 (z.fate job) h.1.1), h.1.2))
 
-  lost_part_keeps : (z : Service) (part : Part) (step : Step) → Keeps document piece rest z step → Keeps document piece rest (served_part z part piece (request step)) (lost step)
-  lost_part_keeps z part (Creating tries) h = h
-  lost_part_keeps z part Finding h = h
-  lost_part_keeps z part (Clearing job) h = h
-  lost_part_keeps z part (Reading job size) h = h
-  lost_part_keeps z part (Sending job size count last tries) h = part_unheard z job size count last part h
-  lost_part_keeps z part (Measuring job size count last) h = h
-  lost_part_keeps z part (Holding job size tries) h = h
-  lost_part_keeps z part (Closing job size tries again) h = inl h
-  lost_part_keeps z part (Checking job size) h = h
-  lost_part_keeps z part (Canceling job cause) h = h
-  lost_part_keeps z part (Ended end) h = h
+      send_neither : (last closes : Bool) → Keeps document piece rest z (Sending job size count last tries) →
+          Keeps document piece rest (with_send z job (last && closes) (size + count) []) (Sending job size count last tries)
+      send_neither true true h =
+          let alone = close_alone document piece rest z job size count (z.fate job) refl h.0 h.1.0 h.1.1 h.1.2 in (h.0, (alone.0, alone.1, h.1.2))
+      send_neither true false h = none_sent true h
+      send_neither false closes h = none_sent false h
+  neither_keeps z closes (Measuring job size count last) h = h
+  neither_keeps z closes (Holding job size tries) h = h
+  neither_keeps z closes (Closing job size tries again) h = h
+  neither_keeps z closes (Checking job size) h = h
+  neither_keeps z closes (Canceling job cause) h = h
+  neither_keeps z closes (Ended end) h = h
+
+  -- Only these commands are executed, and the reply is received.
+  send_heard : (z : Service) (job size count : ℕ) (last closes : Bool) (tries : ℕ) (part : Part) → Keeps document piece rest z (Sending job size count last tries) →
+      Keeps document piece rest (with_send z job (last && closes) (size + count) (part_of part (last_bytes count piece)))
+      (after_send job size count last tries (send_reply z job (last && closes) (size + count) (part_of part (last_bytes count piece))))
+  send_heard z job size count true true tries part h = last_keeps document piece rest z job size count tries part (z.fate job) refl h.0 h.1.0 h.1.1 h.1.2
+  send_heard z job size count true false tries part h = part_keeps document piece rest z job size count true tries part (z.fate job) refl h.0 h.1.0 h.1.1 h.1.2
+  send_heard z job size count false closes tries part h = part_keeps document piece rest z job size count false tries part (z.fate job) refl h.0 h.1.0 h.1.1 h.1.2
+
+  heard_part_keeps : (z : Service) (part : Part) (closes : Bool) (step : Step) → Keeps document piece rest z step →
+      Keeps document piece rest (served_part z part closes piece (request step)) (heard step (reply_to_part z part closes piece (request step)))
+  heard_part_keeps z part closes (Creating tries) h = h
+  heard_part_keeps z part closes Finding h = h
+  heard_part_keeps z part closes (Clearing job) h = h
+  heard_part_keeps z part closes (Reading job size) h = h
+  heard_part_keeps z Neither closes (Sending job size count last tries) h = (neither_keeps z closes (Sending job size count last tries) h).1.0
+  heard_part_keeps z First closes (Sending job size count last tries) h = send_heard z job size count last closes tries First h
+  heard_part_keeps z Second closes (Sending job size count last tries) h = send_heard z job size count last closes tries Second h
+  heard_part_keeps z Both closes (Sending job size count last tries) h = send_heard z job size count last closes tries Both h
+  heard_part_keeps z part closes (Measuring job size count last) h = h
+  heard_part_keeps z part closes (Holding job size tries) h = h
+  heard_part_keeps z part closes (Closing job size tries again) h = inl h
+  heard_part_keeps z part closes (Checking job size) h = h
+  heard_part_keeps z part closes (Canceling job cause) h = h
+  heard_part_keeps z part closes (Ended end) h = h
+
+  lost_part_keeps : (z : Service) (part : Part) (closes : Bool) (step : Step) → Keeps document piece rest z step →
+      Keeps document piece rest (served_part z part closes piece (request step)) (lost step)
+  lost_part_keeps z part closes (Creating tries) h = h
+  lost_part_keeps z part closes Finding h = h
+  lost_part_keeps z part closes (Clearing job) h = h
+  lost_part_keeps z part closes (Reading job size) h = h
+  lost_part_keeps z part closes (Sending job size count last tries) h = send_unheard z job size count last closes part h
+  lost_part_keeps z part closes (Measuring job size count last) h = h
+  lost_part_keeps z part closes (Holding job size tries) h = h
+  lost_part_keeps z part closes (Closing job size tries again) h = inl h
+  lost_part_keeps z part closes (Checking job size) h = h
+  lost_part_keeps z part closes (Canceling job cause) h = h
+  lost_part_keeps z part closes (Ended end) h = h
 
   -- ## A request that is not executed
 
@@ -896,15 +994,20 @@ happens_keeps document w Served h = heard_keeps document w.piece w.rest w.servic
 happens_keeps document w ServedUnheard h = lost_keeps document w.piece w.rest w.service w.step h
 happens_keeps document w ServedUnclear h =
     subst (Keeps document w.piece w.rest (served w.service w.piece (request w.step))) (sym (unclear_lost w.step)) (lost_keeps document w.piece w.rest w.service w.step h)
-happens_keeps document w (PartServed part) h = heard_part_keeps document w.piece w.rest w.service part w.step h
-happens_keeps document w (PartServedUnheard part) h = lost_part_keeps document w.piece w.rest w.service part w.step h
-happens_keeps document w (PartServedUnclear part) h =
-    subst (Keeps document w.piece w.rest (served_part w.service part w.piece (request w.step))) (sym (unclear_lost w.step)) (lost_part_keeps document w.piece w.rest w.service part w.step h)
+happens_keeps document w (PartServed part closes) h = heard_part_keeps document w.piece w.rest w.service part closes w.step h
+happens_keeps document w (PartServedUnheard part closes) h = lost_part_keeps document w.piece w.rest w.service part closes w.step h
+happens_keeps document w (PartServedUnclear part closes) h =
+    subst (Keeps document w.piece w.rest (served_part w.service part closes w.piece (request w.step))) (sym (unclear_lost w.step))
+    (lost_part_keeps document w.piece w.rest w.service part closes w.step h)
 happens_keeps document w Lost h = unserved_keeps document w.piece w.rest w.service w.step h
 happens_keeps document w LeftUnclear h =
     subst (Keeps document w.piece w.rest w.service) (sym (unclear_lost w.step)) (unserved_keeps document w.piece w.rest w.service w.step h)
-happens_keeps document w PutOff h = put_off_keeps document w.piece w.rest w.service w.step h
-happens_keeps document w TurnedDown h = denied_keeps document w.piece w.rest w.service w.step h
+happens_keeps document w (PutOff closes) h =
+    put_off_keeps document w.piece w.rest (served_part w.service Neither closes w.piece (request w.step)) w.step
+    (neither_keeps document w.piece w.rest w.service closes w.step h)
+happens_keeps document w (TurnedDown closes) h =
+    denied_keeps document w.piece w.rest (served_part w.service Neither closes w.piece (request w.step)) w.step
+    (neither_keeps document w.piece w.rest w.service closes w.step h)
 happens_keeps document w (Reads end) h = reads_keep document w end w.step w.rest h
 happens_keeps document w CannotRead h = unread_keeps document w.piece w.rest w.service w.step h
 happens_keeps document w GivesUp h = deserted_keeps document w.piece w.rest w.service w.step h

@@ -1,5 +1,5 @@
 -- A service that executes each command completely or not at all, as one submission observes it: the effect of a request, and its reply.
-use Rattle.std.specs.Prelude.{ℕ, zero, suc, ◌+◌, ◌-◌, Bool, true, false, cond, ◌==◌, List, [], ◌∷◌, ◌++◌, drop, length, take, None, Some}
+use Rattle.std.specs.Prelude.{ℕ, zero, suc, ◌+◌, ◌-◌, Bool, true, false, cond, ◌==◌, ◌&&◌, List, [], ◌∷◌, ◌++◌, drop, length, take, None, Some}
 use Rattle.front_submission.specs.SubmissionSteps.{most_sent}
 use Rattle.front_submission.specs.declared.step.Request.{Request}
 use Rattle.front_submission.specs.declared.step.Request.TheVariants.{Create, Find, Read, Send, Show, Hold, Close, Cancel, Nothing}
@@ -87,12 +87,15 @@ with_last z job size bytes = record {
   prints = z.prints;
 }
 
+abbrev pub with_send : Service → ℕ → Bool → ℕ → List ℕ → Service
+with_send z job true size bytes = with_last z job size bytes
+with_send z job false size bytes = with_bytes z job bytes
+
 -- `piece` is the piece that was read last.
 abbrev pub served : Service → List ℕ → Request → Service
 served z piece Create =
     record { fate = changed z.fate z.given (λ fate. Arrives []); given = suc z.given; closes = z.closes; prints = z.prints }
-served z piece (Send job size count false) = with_bytes z job (last_bytes count piece)
-served z piece (Send job size count true) = with_last z job (size + count) (last_bytes count piece)
+served z piece (Send job size count last) = with_send z job last (size + count) (last_bytes count piece)
 served z piece (Close job) =
     record { fate = changed z.fate job closed; given = z.given; closes = with_close (z.fate job) z.closes; prints = z.prints }
 served z piece (Cancel job) = with_fate z (changed z.fate job stopped)
@@ -102,29 +105,31 @@ served z piece (Show job) = z
 served z piece (Hold job) = z
 served z piece Nothing = z
 
--- A part of the commands of a `send`: one of the two that have bytes, or both without the close. The second one has no bytes if the first
--- one has all. A close without both has no effect, because the size differs.
+-- The commands of a `send` that have bytes and are executed. The second one has no bytes if the first one has all.
 pub data Part : Type 0 where
+  Neither : Part
   First : Part
   Second : Part
   Both : Part
 
 abbrev pub part_of : Part → List ℕ → List ℕ
+part_of Neither bytes = []
 part_of First bytes = take most_sent bytes
 part_of Second bytes = drop most_sent bytes
 part_of Both bytes = bytes
 
--- Only this part of a `send` is executed. Other requests have one command.
-abbrev pub served_part : Service → Part → List ℕ → Request → Service
-served_part z part piece (Send job size count last) = with_bytes z job (part_of part (last_bytes count piece))
-served_part z part piece Create = z
-served_part z part piece Find = z
-served_part z part piece (Read size) = z
-served_part z part piece (Show job) = z
-served_part z part piece (Hold job) = z
-served_part z part piece (Close job) = z
-served_part z part piece (Cancel job) = z
-served_part z part piece Nothing = z
+-- Only these commands of a `send` are executed, and the close after them if `closes` says so. Other requests have one command.
+abbrev pub served_part : Service → Part → Bool → List ℕ → Request → Service
+served_part z part closes piece (Send job size count last) =
+    with_send z job (last && closes) (size + count) (part_of part (last_bytes count piece))
+served_part z part closes piece Create = z
+served_part z part closes piece Find = z
+served_part z part closes piece (Read size) = z
+served_part z part closes piece (Show job) = z
+served_part z part closes piece (Hold job) = z
+served_part z part closes piece (Close job) = z
+served_part z part closes piece (Cancel job) = z
+served_part z part closes piece Nothing = z
 
 -- ## The reply to a request
 
@@ -151,6 +156,10 @@ abbrev pub last_reply : Bool → ℕ → List ℕ → JobFate → Reply
 last_reply prints size piece (Arrives bytes) = cond (length (bytes ++ piece) == size) (Closed prints) (Sent (length (bytes ++ piece)))
 last_reply prints size piece fate = NotIncoming
 
+abbrev pub send_reply : Service → ℕ → Bool → ℕ → List ℕ → Reply
+send_reply z job true size bytes = last_reply z.prints size bytes (z.fate job)
+send_reply z job false size bytes = sent_reply bytes (z.fate job)
+
 abbrev pub shown_reply : Bool → JobFate → Reply
 shown_reply prints NotOwn = Gone
 shown_reply prints (Arrives bytes) = Job (Arriving (length bytes))
@@ -175,25 +184,32 @@ abbrev pub reply_to : Service → List ℕ → Request → Reply
 reply_to z piece Create = Created z.given
 reply_to z piece Find = Jobs (found (arriving z.fate z.given))
 reply_to z piece (Read size) = Unclear
-reply_to z piece (Send job size count false) = sent_reply (last_bytes count piece) (z.fate job)
-reply_to z piece (Send job size count true) = last_reply z.prints (size + count) (last_bytes count piece) (z.fate job)
+reply_to z piece (Send job size count last) = send_reply z job last (size + count) (last_bytes count piece)
 reply_to z piece (Show job) = shown_reply z.prints (z.fate job)
 reply_to z piece (Hold job) = held_reply (z.fate job)
 reply_to z piece (Close job) = closed_reply z.prints (z.fate job)
 reply_to z piece (Cancel job) = canceled_reply (z.fate job)
 reply_to z piece Nothing = Unclear
 
--- The reply to a part of a `send`, if the rest was not executed.
-abbrev pub reply_to_part : Service → Part → List ℕ → Request → Reply
-reply_to_part z part piece (Send job size count last) = sent_reply (part_of part (last_bytes count piece)) (z.fate job)
-reply_to_part z part piece Create = Unclear
-reply_to_part z part piece Find = Unclear
-reply_to_part z part piece (Read size) = Unclear
-reply_to_part z part piece (Show job) = Unclear
-reply_to_part z part piece (Hold job) = Unclear
-reply_to_part z part piece (Close job) = Unclear
-reply_to_part z part piece (Cancel job) = Unclear
-reply_to_part z part piece Nothing = Unclear
+-- A command that is not executed is refused. The reply is that to the other one, if it is executed.
+abbrev pub part_reply : Part → Reply → Reply
+part_reply Neither reply = Denied
+part_reply First reply = reply
+part_reply Second reply = reply
+part_reply Both reply = reply
+
+-- The reply to a `send`, if only these commands are executed.
+abbrev pub reply_to_part : Service → Part → Bool → List ℕ → Request → Reply
+reply_to_part z part closes piece (Send job size count last) =
+    part_reply part (send_reply z job (last && closes) (size + count) (part_of part (last_bytes count piece)))
+reply_to_part z part closes piece Create = Unclear
+reply_to_part z part closes piece Find = Unclear
+reply_to_part z part closes piece (Read size) = Unclear
+reply_to_part z part closes piece (Show job) = Unclear
+reply_to_part z part closes piece (Hold job) = Unclear
+reply_to_part z part closes piece (Close job) = Unclear
+reply_to_part z part closes piece (Cancel job) = Unclear
+reply_to_part z part closes piece Nothing = Unclear
 
 -- ## Actions of others
 

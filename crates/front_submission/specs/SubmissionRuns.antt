@@ -4,7 +4,7 @@ use Rattle.front_submission.specs.declared.step.Step.{Step}
 use Rattle.front_submission.specs.declared.step.Step.TheVariants.{Creating, Reading}
 use Rattle.front_submission.specs.declared.reply.Reply.TheVariants.{Later, Denied, Unclear}
 use Rattle.front_submission.specs.SubmissionSteps.{most_tries, request, heard, lost, supplied, unread, deserted}
-use Rattle.front_submission.specs.Service.{NotOwn, Part, Service, served, served_part, reply_to, reply_to_part, Other, after_other}
+use Rattle.front_submission.specs.Service.{NotOwn, Part, Neither, Service, served, served_part, reply_to, reply_to_part, Other, after_other}
 
 pub record SubmissionRun : Type 0 where
   pub service : Service
@@ -20,15 +20,16 @@ pub data Event : Type 0 where
   Served : Event
   ServedUnheard : Event
   ServedUnclear : Event
-  -- Only a part of a `send` is executed, and the reply is received, lost or unclear.
-  PartServed : Part → Event
-  PartServedUnheard : Part → Event
-  PartServedUnclear : Part → Event
-  -- The request is not executed: its connection is lost, or the reply is unclear, puts it off, or refuses it.
+  -- Only some commands of a `send` are executed, and the close after them or not. The reply is received, lost or unclear.
+  PartServed : Part → Bool → Event
+  PartServedUnheard : Part → Bool → Event
+  PartServedUnclear : Part → Bool → Event
+  -- The request is not executed: its connection is lost, or the reply is unclear.
   Lost : Event
   LeftUnclear : Event
-  PutOff : Event
-  TurnedDown : Event
+  -- The request is put off, or refused. The close after a piece is executed nevertheless, or not.
+  PutOff : Bool → Event
+  TurnedDown : Bool → Event
   -- The next piece is read, or cannot be read. With the last piece its end may be read at once.
   Reads : Bool → Event
   CannotRead : Event
@@ -47,8 +48,8 @@ undone w step = with_step w w.service step
 abbrev pub done : SubmissionRun → Step → SubmissionRun
 done w step = with_step w (served w.service w.piece (request w.step)) step
 
-abbrev pub partly_done : SubmissionRun → Part → Step → SubmissionRun
-partly_done w part step = with_step w (served_part w.service part w.piece (request w.step)) step
+abbrev pub partly_done : SubmissionRun → Part → Bool → Step → SubmissionRun
+partly_done w part closes step = with_step w (served_part w.service part closes w.piece (request w.step)) step
 
 abbrev pub is_none : List (List ℕ) → Bool
 is_none [] = true
@@ -71,13 +72,13 @@ abbrev pub happens : SubmissionRun → Event → SubmissionRun
 happens w Served = done w (heard w.step (reply_to w.service w.piece (request w.step)))
 happens w ServedUnheard = done w (lost w.step)
 happens w ServedUnclear = done w (heard w.step Unclear)
-happens w (PartServed part) = partly_done w part (heard w.step (reply_to_part w.service part w.piece (request w.step)))
-happens w (PartServedUnheard part) = partly_done w part (lost w.step)
-happens w (PartServedUnclear part) = partly_done w part (heard w.step Unclear)
+happens w (PartServed part closes) = partly_done w part closes (heard w.step (reply_to_part w.service part closes w.piece (request w.step)))
+happens w (PartServedUnheard part closes) = partly_done w part closes (lost w.step)
+happens w (PartServedUnclear part closes) = partly_done w part closes (heard w.step Unclear)
 happens w Lost = undone w (lost w.step)
 happens w LeftUnclear = undone w (heard w.step Unclear)
-happens w PutOff = undone w (heard w.step Later)
-happens w TurnedDown = undone w (heard w.step Denied)
+happens w (PutOff closes) = partly_done w Neither closes (heard w.step Later)
+happens w (TurnedDown closes) = partly_done w Neither closes (heard w.step Denied)
 happens w (Reads end) = read_at w end w.step w.rest
 happens w CannotRead = undone w (unread w.step)
 happens w GivesUp = undone w (deserted w.step)

@@ -1,5 +1,6 @@
 -- The invariant of a submission of several documents.
-use Rattle.std.proofs.Common.{◌≡◌, ℕ, suc, ◌≤◌, Bool, true, false, cond, ◌==◌, ◌&&◌, ltb, List, [], ◌∷◌, ◌++◌, length, get_or, set, refl, ap, sym, ◌∙◌, subst, true≢false}
+use Rattle.std.proofs.Common.{◌≡◌, ℕ, zero, suc, ◌≤◌, Bool, true, false, cond, ◌==◌, ◌&&◌, ltb, List, [], ◌∷◌, ◌++◌, length, get_or, set, refl, ap, sym, ◌∙◌, subst, arith, true≢false}
+use Rattle.std.proofs.lemmas.Bool.{eqb-true}
 use Rattle.std.specs.List.{list_all}
 use Rattle.front_submission.specs.declared.step.End.{End}
 use Rattle.front_submission.specs.declared.step.End.TheVariants.{Accepted}
@@ -7,19 +8,17 @@ use Rattle.front_submission.specs.declared.step.Step.{Step}
 use Rattle.front_submission.specs.declared.step.Step.TheVariants.{Creating, Ended}
 use Rattle.front_submission.specs.declared.reply.Reply.TheVariants.{Later, Denied, Unclear}
 use Rattle.front_submission.specs.SubmissionSteps.{most_tries, status, request, heard, lost, supplied, unread, deserted}
-use Rattle.front_submission.specs.declared.step.Request.{Request}
-use Rattle.front_submission.specs.declared.step.Request.TheVariants as requests
-use Rattle.front_submission.specs.Service.{Service, Other, Makes, Cancels, Purges, Part, after_other, reply_to, reply_to_part, served_part}
-use Rattle.front_submission.specs.SubmissionRuns.{SubmissionRun, Event, ArePieces, end_of, happens, joined, read_at, run, start}
+use Rattle.front_submission.specs.Service.{Service, Other, Makes, Cancels, Purges, Part, Neither, after_other, reply_to, reply_to_part}
+use Rattle.front_submission.specs.SubmissionRuns.{SubmissionRun, Event, ArePieces, end_of, happens, is_none, joined, read_at, run, start}
 use Rattle.front_submission.specs.SubmissionRuns as runs
 use Rattle.ipp_submission.specs.declared.stage.Stage.{Stage}
 use Rattle.ipp_submission.specs.declared.stage.Stage.TheVariants as stages
 use Rattle.ipp_submission.specs.declared.stage.Move.{Move}
 use Rattle.ipp_submission.specs.declared.stage.Move.TheVariants.{Stay, CloseNext, UndoNext, UndoThis}
-use Rattle.ipp_submission.specs.JobParts.{all_accepted, closing_at, current, part_at, is_accepted, is_closed, is_ended, is_reading, is_ready, is_taking, move_after, next_part}
-use Rattle.ipp_submission.specs.JobRuns.{JobEvent, JobRun, Each, IsAccepted, IsUnclosed, IsWhole, Pairs, ClosedAtMostOnce, Served, ServedUnheard, ServedUnclear, PartServed, PartServedUnheard, PartServedUnclear, Lost, LeftUnclear, PutOff, TurnedDown, Deserted, Meanwhile, Piece, Begins, Ends, GivesUp, all_read, begins, is_none, job_end, job_happens, job_run, job_start, moved_run, moving, now, piece_at, stepped, submission_at, told, undone, with_event, with_submissions}
+use Rattle.ipp_submission.specs.JobParts.{all_accepted, closes_with_last, closing_at, current, part_at, is_accepted, is_closed, is_ended, is_reading, is_ready, is_taking, move_after, next_part}
+use Rattle.ipp_submission.specs.JobRuns.{JobEvent, JobRun, Each, IsAccepted, IsUnclosed, IsWhole, Pairs, ClosedAtMostOnce, Served, ServedUnheard, ServedUnclear, PartServed, PartServedUnheard, PartServedUnclear, Lost, LeftUnclear, PutOff, TurnedDown, Deserted, Meanwhile, Piece, LastPiece, Begins, Ends, GivesUp, all_read, begins, job_end, job_happens, job_run, job_start, last_piece_at, moved_run, moving, now, piece_at, stepped, submission_at, told, undone, with_event, with_last, with_submissions}
 use Rattle.ipp_submission.proofs.PairLaws.{all_append, all_get, all_map, all_set, pairs_append, pairs_change, pairs_get, pairs_map, pairs_map_all, pairs_set}
-use Rattle.ipp_submission.proofs.StepLaws.{IsEarlyStep, accepted_end, early_deserted, early_heard, early_lost, early_supplied, early_unread, read_end, read_keeps, read_step, unclosed_served}
+use Rattle.ipp_submission.proofs.StepLaws.{IsEarlyStep, accepted_end, early_deserted, early_heard, early_lost, early_supplied, early_unread, read_end, read_keeps, read_last, read_step, read_whole, unclosed_part, unclosed_served}
 
 -- ## Statements about one part
 
@@ -55,14 +54,14 @@ holds_keep : (w : SubmissionRun) (event : Event) → (happens w event).holds ≡
 holds_keep w runs.Served = refl
 holds_keep w runs.ServedUnheard = refl
 holds_keep w runs.ServedUnclear = refl
-holds_keep w (runs.PartServed command) = refl
-holds_keep w (runs.PartServedUnheard command) = refl
-holds_keep w (runs.PartServedUnclear command) = refl
+holds_keep w (runs.PartServed part closes) = refl
+holds_keep w (runs.PartServedUnheard part closes) = refl
+holds_keep w (runs.PartServedUnclear part closes) = refl
 holds_keep w runs.Lost = refl
 holds_keep w runs.LeftUnclear = refl
-holds_keep w runs.PutOff = refl
-holds_keep w runs.TurnedDown = refl
-holds_keep w runs.Reads = (read_keeps w w.step w.rest).holds
+holds_keep w (runs.PutOff closes) = refl
+holds_keep w (runs.TurnedDown closes) = refl
+holds_keep w (runs.Reads end) = (read_keeps w end w.step w.rest).holds
 holds_keep w runs.CannotRead = refl
 holds_keep w runs.GivesUp = refl
 holds_keep w (runs.Meanwhile other) = refl
@@ -71,14 +70,14 @@ whole_keeps : (w : SubmissionRun) (event : Event) → IsWhole w → IsWhole (hap
 whole_keeps w runs.Served h = h
 whole_keeps w runs.ServedUnheard h = h
 whole_keeps w runs.ServedUnclear h = h
-whole_keeps w (runs.PartServed command) h = h
-whole_keeps w (runs.PartServedUnheard command) h = h
-whole_keeps w (runs.PartServedUnclear command) h = h
+whole_keeps w (runs.PartServed part closes) h = h
+whole_keeps w (runs.PartServedUnheard part closes) h = h
+whole_keeps w (runs.PartServedUnclear part closes) h = h
 whole_keeps w runs.Lost h = h
 whole_keeps w runs.LeftUnclear h = h
-whole_keeps w runs.PutOff h = h
-whole_keeps w runs.TurnedDown h = h
-whole_keeps w runs.Reads h = (read_keeps w w.step w.rest).whole h
+whole_keeps w (runs.PutOff closes) h = h
+whole_keeps w (runs.TurnedDown closes) h = h
+whole_keeps w (runs.Reads end) h = (read_keeps w end w.step w.rest).whole h
 whole_keeps w runs.CannotRead h = h
 whole_keeps w runs.GivesUp h = h
 whole_keeps w (runs.Meanwhile other) h = h
@@ -163,28 +162,28 @@ whole_at : (w : JobRun) (i : ℕ) → Each IsWhole w.submissions → (submission
 whole_at w i all = all_get IsWhole w.submissions i (start [] w.progress.holds 0 false) all refl
 
 -- The submission of a whole document is read to its end.
-end_read : (v : SubmissionRun) (step : Step) (holds : Bool) → v.rest ≡ [] → Agrees holds step v → (happens v runs.Reads).step ≡ supplied step 0 holds
+end_read : (v : SubmissionRun) (step : Step) (holds : Bool) → v.rest ≡ [] → Agrees holds step v → (happens v (runs.Reads false)).step ≡ supplied step 0 false holds
 end_read v step holds none agrees =
-    ap (λ (rest : List (List ℕ)). (read_at v v.step rest).step) none ∙ read_end v v.step
-    ∙ ap (λ (s : Step). supplied s 0 v.holds) agrees.0 ∙ ap (λ (b : Bool). supplied step 0 b) agrees.1
+    ap (λ (rest : List (List ℕ)). (read_at v false v.step rest).step) none ∙ read_end v v.step
+    ∙ ap (λ (s : Step). supplied s 0 false v.holds) agrees.0 ∙ ap (λ (b : Bool). supplied step 0 false b) agrees.1
 
 closing_good : (w : JobRun) (i : ℕ) (whole : Bool) → whole ≡ true → IsGood w → Each IsWhole w.submissions →
     IsGood (record {
       progress = record {
-        parts = set w.progress.parts i (supplied (part_at w.progress i) 0 w.progress.holds);
+        parts = set w.progress.parts i (supplied (part_at w.progress i) 0 false w.progress.holds);
         at = i;
         stage = stages.Closing;
         holds = w.progress.holds;
       };
       documents = w.documents;
-      submissions = with_event w i runs.Reads;
+      submissions = with_event w i (runs.Reads false);
       whole = whole;
     })
 closing_good w i whole is good all = record {
-  agrees = agrees_more w i runs.Reads _ good (end_read (submission_at w i) _ _ (whole_at w i all) (agree_at w i good));
-  reached = reached_more w i runs.Reads good;
-  kept = subst (λ (b : Bool). Kept stages.Closing b (with_event w i runs.Reads)) (sym is)
-      (all_set IsWhole w.submissions i (happens (submission_at w i) runs.Reads) all (whole_keeps (submission_at w i) runs.Reads (whole_at w i all)));
+  agrees = agrees_more w i (runs.Reads false) _ good (end_read (submission_at w i) _ _ (whole_at w i all) (agree_at w i good));
+  reached = reached_more w i (runs.Reads false) good;
+  kept = subst (λ (b : Bool). Kept stages.Closing b (with_event w i (runs.Reads false))) (sym is)
+      (all_set IsWhole w.submissions i (happens (submission_at w i) (runs.Reads false)) all (whole_keeps (submission_at w i) (runs.Reads false) (whole_at w i all)));
 }
 
 -- In the stage in which jobs are closed each document is whole.
@@ -216,7 +215,7 @@ next_good : (b : Bool) (w : JobRun) → IsGood w → AllWhole w.whole w.submissi
     IsGood (record {
       progress = cond b (closing_at w.progress (suc w.progress.at)) w.progress;
       documents = w.documents;
-      submissions = cond b (with_event w (suc w.progress.at) runs.Reads) w.submissions;
+      submissions = cond b (with_event w (suc w.progress.at) (runs.Reads false)) w.submissions;
       whole = w.whole;
     })
 next_good true w good all = closing_good w (suc w.progress.at) w.whole all.is good all.all
@@ -266,26 +265,15 @@ one_good false x y f g = g refl
 
 -- The next piece is read.
 piece_step : (v : SubmissionRun) (piece : List ℕ) (rest : List (List ℕ)) → v.rest ≡ piece ∷ rest →
-    (happens v runs.Reads).step ≡ supplied v.step (length piece) v.holds
-piece_step v piece rest is = ap (λ (r : List (List ℕ)). (read_at v v.step r).step) is ∙ read_step v v.step piece rest
+    (happens v (runs.Reads false)).step ≡ supplied v.step (length piece) false v.holds
+piece_step v piece rest is = ap (λ (r : List (List ℕ)). (read_at v false v.step r).step) is ∙ read_step v v.step piece rest
 
 piece_early : (v : SubmissionRun) (piece : List ℕ) (rest : List (List ℕ)) → v.rest ≡ piece ∷ rest → (length piece == 0) ≡ false →
-    IsEarly v → IsEarly (happens v runs.Reads)
+    IsEarly v → IsEarly (happens v (runs.Reads false))
 piece_early v piece rest is some e = (
   subst IsEarlyStep (sym (piece_step v piece rest is)) (early_supplied v.step (length piece) v.holds some e.0),
-  ap (λ (z : Service). z.closes) (read_keeps v v.step v.rest).service ∙ e.1,
+  ap (λ (z : Service). z.closes) (read_keeps v false v.step v.rest).service ∙ e.1,
 )
-
-piece_good : (w : JobRun) (rest : List (List ℕ)) → (now w).rest ≡ rest → IsGood w → IsGood (piece_at w rest)
-piece_good w [] is good = good
-piece_good w (piece ∷ rest) is good =
-    one_good (is_ready w.progress) _ w
-    (λ _. one_good (length piece == 0) w _ (λ _. good)
-    (λ some. stepped_good w runs.Reads _ good
-    (piece_step (now w) piece rest is ∙ ap (λ (s : Step). supplied s (length piece) (now w).holds) (agree_at w w.progress.at good).0
-    ∙ ap (λ (b : Bool). supplied (current w.progress) (length piece) b) (agree_at w w.progress.at good).1)
-    (piece_early (now w) piece rest is some)))
-    (λ _. good)
 
 both_left : (a b : Bool) → (a && b) ≡ true → a ≡ true
 both_left true b h = refl
@@ -294,6 +282,63 @@ both_left false b h = h
 both_right : (a b : Bool) → (a && b) ≡ true → b ≡ true
 both_right true b h = h
 both_right false b h = absurd (true≢false (sym h))
+
+piece_good : (w : JobRun) (rest : List (List ℕ)) → (now w).rest ≡ rest → IsGood w → IsGood (piece_at w rest)
+piece_good w [] is good = good
+piece_good w (piece ∷ rest) is good =
+    one_good (is_ready w.progress) _ w
+    (λ _. one_good (length piece == 0) w _ (λ _. good)
+    (λ some. stepped_good w (runs.Reads false) _ good
+    (piece_step (now w) piece rest is ∙ ap (λ (s : Step). supplied s (length piece) false (now w).holds) (agree_at w w.progress.at good).0
+    ∙ ap (λ (b : Bool). supplied (current w.progress) (length piece) false b) (agree_at w w.progress.at good).1)
+    (piece_early (now w) piece rest is some)))
+    (λ _. good)
+
+-- The only document is whole if its last piece was read.
+only_whole : (holds : Bool) (parts : List Step) (ws : List SubmissionRun) (i : ℕ) (d new : SubmissionRun) (piece : List ℕ) → Pairs (Agrees holds) parts ws →
+    (length parts == 1) ≡ true → d.rest ≡ [] → (get_or ws i d).rest ≡ piece ∷ [] → IsWhole new → Each IsWhole (set ws i new)
+only_whole holds [] ws i d new piece h one none is whole = absurd (true≢false (sym one))
+only_whole holds (part ∷ []) [] i d new piece h one none is whole = absurd h
+only_whole holds (part ∷ []) (w ∷ []) zero d new piece h one none is whole = (whole, tt)
+only_whole holds (part ∷ []) (w ∷ []) (suc i) d new piece h one none is whole = absurd (not_empty (sym none ∙ is))
+  where
+    not_empty : [] ≡ piece ∷ [] → ⊥
+    not_empty e = absurd (cc)
+only_whole holds (part ∷ []) (w ∷ (v ∷ ws)) i d new piece h one none is whole = absurd h.1
+only_whole holds (part ∷ (other ∷ parts)) ws i d new piece h one none is whole =
+    let single : length (part ∷ (other ∷ parts)) ≡ 1 = eqb-true (length (part ∷ (other ∷ parts))) 1 one in absurd (omega arith)
+
+with_last_good : (w : JobRun) (piece : List ℕ) → (now w).rest ≡ piece ∷ [] → is_ready w.progress ≡ true → closes_with_last w.progress ≡ true → IsGood w →
+    IsGood (with_last w piece)
+with_last_good w piece is ready closes good = record {
+  agrees = agrees_more w w.progress.at (runs.Reads true) _ good step_is;
+  reached = reached_more w w.progress.at (runs.Reads true) good;
+  kept = only_whole w.progress.holds w.progress.parts w.submissions w.progress.at (start [] w.progress.holds 0 false) (happens (now w) (runs.Reads true)) piece
+      good.agrees (both_left (length w.progress.parts == 1) _ closes) refl is whole;
+}
+  where
+    at : Agrees w.progress.holds (current w.progress) (now w)
+    at = agree_at w w.progress.at good
+
+    step_is : (happens (now w) (runs.Reads true)).step ≡ supplied (current w.progress) (length piece) true w.progress.holds
+    step_is =
+        ap (λ (r : List (List ℕ)). (read_at (now w) true (now w).step r).step) is ∙ read_last (now w) (now w).step piece
+        ∙ ap (λ (s : Step). supplied s (length piece) true (now w).holds) at.0 ∙ ap (λ (b : Bool). supplied (current w.progress) (length piece) true b) at.1
+
+    whole : IsWhole (happens (now w) (runs.Reads true))
+    whole =
+        ap (λ (r : List (List ℕ)). (read_at (now w) true (now w).step r).rest) is
+        ∙ read_whole (now w) (now w).step piece
+        (ap (λ (s : Step). is_reading s) at.0 ∙ both_right (is_taking w.progress.stage) (is_reading (current w.progress)) ready)
+
+last_good : (w : JobRun) (rest : List (List ℕ)) → (now w).rest ≡ rest → IsGood w → IsGood (last_piece_at w rest)
+last_good w [] is good = good
+last_good w (piece ∷ []) is good =
+    one_good (is_ready w.progress) _ w
+    (λ ready. one_good (closes_with_last w.progress) _ w
+    (λ closes. one_good (length piece == 0) w _ (λ _. good) (λ _. with_last_good w piece is ready closes good)) (λ _. good))
+    (λ _. good)
+last_good w (piece ∷ (next ∷ rest)) is good = good
 
 begins_good : (w : JobRun) (pieces : List (List ℕ)) (given : ℕ) (prints : Bool) → is_taking w.progress.stage ≡ true → IsGood w →
     IsGood (begins w pieces given prints)
@@ -324,20 +369,8 @@ undone_good w good = record {
 served_early : (v : SubmissionRun) (step : Step) → IsEarlyStep step → IsEarly v → IsEarly (runs.done v step)
 served_early v step early e = (early, unclosed_served v.service v.piece v.step e.0 e.1)
 
--- One command of a `send` closes no job.
-unclosed_part : (z : Service) (command : Part) (piece : List ℕ) (request : Request) → (served_part z command piece request).closes ≡ z.closes
-unclosed_part z command piece (requests.Send job size count) = refl
-unclosed_part z command piece requests.Create = refl
-unclosed_part z command piece requests.Find = refl
-unclosed_part z command piece (requests.Read size) = refl
-unclosed_part z command piece (requests.Show job) = refl
-unclosed_part z command piece (requests.Hold job) = refl
-unclosed_part z command piece (requests.Close job) = refl
-unclosed_part z command piece (requests.Cancel job) = refl
-unclosed_part z command piece requests.Nothing = refl
-
-partly_early : (v : SubmissionRun) (command : Part) (step : Step) → IsEarlyStep step → IsEarly v → IsEarly (runs.partly_done v command step)
-partly_early v command step early e = (early, unclosed_part v.service command v.piece (request v.step) ∙ e.1)
+partly_early : (v : SubmissionRun) (part : Part) (closes : Bool) (step : Step) → IsEarlyStep step → IsEarly v → IsEarly (runs.partly_done v part closes step)
+partly_early v part closes step early e = (early, unclosed_part v.service part closes v.piece v.step e.0 e.1)
 
 step_of : (w : JobRun) → IsGood w → (now w).step ≡ current w.progress
 step_of w good = (agree_at w w.progress.at good).0
@@ -351,27 +384,30 @@ job_good w ServedUnheard good =
 job_good w ServedUnclear good =
     told_good w runs.ServedUnclear _ good (ap (λ (s : Step). heard s Unclear) (step_of w good))
     (λ e. served_early (now w) _ (early_heard (now w).step Unclear e.0) e)
-job_good w (PartServed command) good =
-    told_good w (runs.PartServed command) _ good
-    (ap (λ (s : Step). heard s (reply_to_part (now w).service command (now w).piece (request s))) (step_of w good))
-    (λ e. partly_early (now w) command _ (early_heard (now w).step _ e.0) e)
-job_good w (PartServedUnheard command) good =
-    told_good w (runs.PartServedUnheard command) _ good (ap (λ (s : Step). lost s) (step_of w good))
-    (λ e. partly_early (now w) command _ (early_lost (now w).step e.0) e)
-job_good w (PartServedUnclear command) good =
-    told_good w (runs.PartServedUnclear command) _ good (ap (λ (s : Step). heard s Unclear) (step_of w good))
-    (λ e. partly_early (now w) command _ (early_heard (now w).step Unclear e.0) e)
+job_good w (PartServed part closes) good =
+    told_good w (runs.PartServed part closes) _ good
+    (ap (λ (s : Step). heard s (reply_to_part (now w).service part closes (now w).piece (request s))) (step_of w good))
+    (λ e. partly_early (now w) part closes _ (early_heard (now w).step _ e.0) e)
+job_good w (PartServedUnheard part closes) good =
+    told_good w (runs.PartServedUnheard part closes) _ good (ap (λ (s : Step). lost s) (step_of w good))
+    (λ e. partly_early (now w) part closes _ (early_lost (now w).step e.0) e)
+job_good w (PartServedUnclear part closes) good =
+    told_good w (runs.PartServedUnclear part closes) _ good (ap (λ (s : Step). heard s Unclear) (step_of w good))
+    (λ e. partly_early (now w) part closes _ (early_heard (now w).step Unclear e.0) e)
 job_good w Lost good = told_good w runs.Lost _ good (ap (λ (s : Step). lost s) (step_of w good)) (λ e. (early_lost (now w).step e.0, e.1))
 job_good w LeftUnclear good =
     told_good w runs.LeftUnclear _ good (ap (λ (s : Step). heard s Unclear) (step_of w good)) (λ e. (early_heard (now w).step Unclear e.0, e.1))
-job_good w PutOff good =
-    told_good w runs.PutOff _ good (ap (λ (s : Step). heard s Later) (step_of w good)) (λ e. (early_heard (now w).step Later e.0, e.1))
-job_good w TurnedDown good =
-    told_good w runs.TurnedDown _ good (ap (λ (s : Step). heard s Denied) (step_of w good)) (λ e. (early_heard (now w).step Denied e.0, e.1))
+job_good w (PutOff closes) good =
+    told_good w (runs.PutOff closes) _ good (ap (λ (s : Step). heard s Later) (step_of w good))
+    (λ e. partly_early (now w) Neither closes _ (early_heard (now w).step Later e.0) e)
+job_good w (TurnedDown closes) good =
+    told_good w (runs.TurnedDown closes) _ good (ap (λ (s : Step). heard s Denied) (step_of w good))
+    (λ e. partly_early (now w) Neither closes _ (early_heard (now w).step Denied e.0) e)
 job_good w Deserted good =
     told_good w runs.GivesUp _ good (ap (λ (s : Step). deserted s) (step_of w good)) (λ e. (early_deserted (now w).step e.0, e.1))
 job_good w (Meanwhile part other) good = meanwhile_good w part other good
 job_good w Piece good = piece_good w (now w).rest refl good
+job_good w LastPiece good = last_good w (now w).rest refl good
 job_good w (Begins pieces given prints) good =
     one_good (is_ready w.progress) _ w
     (λ ready. begins_good w pieces given prints (both_left (is_taking w.progress.stage) (is_reading (current w.progress)) ready) good) (λ _. good)

@@ -25,15 +25,16 @@ pub data JobEvent : Type 0 where
   Served : JobEvent
   ServedUnheard : JobEvent
   ServedUnclear : JobEvent
-  -- Only a part of its `send` is executed.
-  PartServed : Part → JobEvent
-  PartServedUnheard : Part → JobEvent
-  PartServedUnclear : Part → JobEvent
-  -- The request is not executed: its connection is lost, or the reply is unclear, puts it off, or refuses it.
+  -- Only some commands of its `send` are executed, and the close after them or not.
+  PartServed : Part → Bool → JobEvent
+  PartServedUnheard : Part → Bool → JobEvent
+  PartServedUnclear : Part → Bool → JobEvent
+  -- The request is not executed: its connection is lost, or the reply is unclear.
   Lost : JobEvent
   LeftUnclear : JobEvent
-  PutOff : JobEvent
-  TurnedDown : JobEvent
+  -- The request is put off, or refused. The close after a piece is executed nevertheless, or not.
+  PutOff : Bool → JobEvent
+  TurnedDown : Bool → JobEvent
   -- No service was reachable for too long.
   Deserted : JobEvent
   -- Others act on the job of this part.
@@ -131,14 +132,14 @@ abbrev pub job_happens : JobRun → JobEvent → JobRun
 job_happens w Served = told w runs.Served (heard (current w.progress) (reply_to (now w).service (now w).piece (request (current w.progress))))
 job_happens w ServedUnheard = told w runs.ServedUnheard (lost (current w.progress))
 job_happens w ServedUnclear = told w runs.ServedUnclear (heard (current w.progress) Unclear)
-job_happens w (PartServed command) =
-    told w (runs.PartServed command) (heard (current w.progress) (reply_to_part (now w).service command (now w).piece (request (current w.progress))))
-job_happens w (PartServedUnheard command) = told w (runs.PartServedUnheard command) (lost (current w.progress))
-job_happens w (PartServedUnclear command) = told w (runs.PartServedUnclear command) (heard (current w.progress) Unclear)
+job_happens w (PartServed part closes) =
+    told w (runs.PartServed part closes) (heard (current w.progress) (reply_to_part (now w).service part closes (now w).piece (request (current w.progress))))
+job_happens w (PartServedUnheard part closes) = told w (runs.PartServedUnheard part closes) (lost (current w.progress))
+job_happens w (PartServedUnclear part closes) = told w (runs.PartServedUnclear part closes) (heard (current w.progress) Unclear)
 job_happens w Lost = told w runs.Lost (lost (current w.progress))
 job_happens w LeftUnclear = told w runs.LeftUnclear (heard (current w.progress) Unclear)
-job_happens w PutOff = told w runs.PutOff (heard (current w.progress) Later)
-job_happens w TurnedDown = told w runs.TurnedDown (heard (current w.progress) Denied)
+job_happens w (PutOff closes) = told w (runs.PutOff closes) (heard (current w.progress) Later)
+job_happens w (TurnedDown closes) = told w (runs.TurnedDown closes) (heard (current w.progress) Denied)
 job_happens w Deserted = told w runs.GivesUp (deserted (current w.progress))
 job_happens w (Meanwhile part other) = with_submissions w (with_event w part (runs.Meanwhile other))
 job_happens w Piece = piece_at w (now w).rest

@@ -1,7 +1,7 @@
 -- Each event is defined by the call.
 use Rattle.std.proofs.Common.{◌≡◌, ◌==◌, ℕ, Bool, true, false, cond, List, length, refl, ap, ◌∙◌}
-use Rattle.ipp_submission.specs.JobParts.{is_ready, is_taking}
-use Rattle.ipp_submission.specs.JobRuns.{JobRun, all_read, piece_at}
+use Rattle.ipp_submission.specs.JobParts.{closes_with_last, is_ready, is_taking}
+use Rattle.ipp_submission.specs.JobRuns.{JobRun, all_read, last_piece_at, piece_at}
 use Rattle.ipp_submission.proofs.laws.runs_follow_calls.Goals as goal
 
 -- One of two runs, by a test whose outcome is known.
@@ -28,6 +28,12 @@ pub returns-clause-supplied : goal.returns-clause-supplied
 returns-clause-supplied c w piece rest is some ready =
     ap (λ (left : List (List ℕ)). (piece_at w left).progress) is
     ∙ ap (λ (v : JobRun). v.progress) (first_of (is_ready w.progress) _ w ready ∙ second_of (length piece == 0) w _ some)
+
+pub returns-clause-supplied_last : goal.returns-clause-supplied_last
+returns-clause-supplied_last c w piece is some ready closes =
+    ap (λ (left : List (List ℕ)). (last_piece_at w left).progress) is
+    ∙ ap (λ (v : JobRun). v.progress)
+    (first_of (is_ready w.progress) _ w ready ∙ first_of (closes_with_last w.progress) _ w closes ∙ second_of (length piece == 0) w _ some)
 
 pub returns-clause-begun : goal.returns-clause-begun
 returns-clause-begun c w pieces given prints ready = ap (λ (v : JobRun). v.progress) (first_of (is_ready w.progress) _ w ready)
