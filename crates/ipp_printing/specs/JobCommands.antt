@@ -58,19 +58,23 @@ abbrev pub media_word : Option (List ℕ) → List ℕ
 media_word None = []
 media_word (Some media) = codes " " ++ media
 
+-- The name of a document, its type, and the end of the line.
+abbrev pub document_words : PrintingJob → ℕ → List ℕ
+document_words j part = quoted (document_name (slice_get j.documents.items part)) ++ media_word (media_of j part) ++ codes "\n"
+
 abbrev pub close_line : PrintingJob → ℕ → ℕ → List ℕ
-close_line j part job =
-    codes "close " ++ decimal job ++ codes " " ++ quoted (document_name (slice_get j.documents.items part)) ++ media_word (media_of j part) ++ codes "\n"
+close_line j part job = (codes "close " ++ decimal job ++ codes " ") ++ document_words j part
 
 -- The size of a document after a piece, if it is a number of 64 bits. No document has more bytes.
 abbrev pub size_after : ℕ → ℕ → ℕ
 size_after size piece = min (size + piece) 18446744073709551615
 
+abbrev pub closeat_words : ℕ → ℕ → List ℕ
+closeat_words job size = codes "closeat " ++ decimal job ++ codes " " ++ decimal size ++ codes " "
+
 -- `close` on the condition that the document has this size.
 abbrev pub closeat_line : PrintingJob → ℕ → ℕ → ℕ → List ℕ
-closeat_line j part job size =
-    codes "closeat " ++ decimal job ++ codes " " ++ decimal size ++ codes " " ++ quoted (document_name (slice_get j.documents.items part))
-    ++ media_word (media_of j part) ++ codes "\n"
+closeat_line j part job size = closeat_words job size ++ document_words j part
 
 -- The last piece, or its close once the reply to the piece has come.
 abbrev pub last_line : Option Reply → PrintingJob → ℕ → ℕ → ℕ → List ℕ

@@ -1,10 +1,10 @@
 //! A job of a client, whose documents become jobs of the service.
-ghost use Rattle.std.specs.Prelude.{◌≡◌, ◌⊎◌, ◌++◌, ℕ, List, None, [], false, codes, string_bytes, IfOk, OnErr, OnOk};
+ghost use Rattle.std.specs.Prelude.{◌≡◌, ◌⊎◌, ◌++◌, ℕ, List, None, [], false, codes, slice_get, string_bytes, IfOk, OnErr, OnOk};
 ghost use Rattle.std.specs.Fmt.{decimal};
 ghost use Rattle.std.specs.Option.{option_map};
 ghost use Rattle.ipp_submission.specs.JobParts.{current, given_up, heard_in, is_ended, lost_in, next_request};
 ghost use Rattle.ipp_options.specs.declared.hold.Hold.TheVariants.{Indefinite};
-ghost use Rattle.ipp_printing.specs.JobCommands.{blank_after, close_line, closeat_line, command_of, create_line, document_media, document_name, find_line, follower_of, hold_line, job_line, last_line, media_of, media_word, option_text, search_line, size_after};
+ghost use Rattle.ipp_printing.specs.JobCommands.{blank_after, close_line, closeat_line, closeat_words, command_of, create_line, document_media, document_name, document_words, find_line, follower_of, hold_line, job_line, last_line, media_of, media_word, option_text, search_line, size_after};
 ghost use Rattle.ipp_printing.specs.PrintingJobs.{HearsSome, heard_by, heard_last, is_search, kept_by, kept_last, rows_reply, submission_of};
 
 use command_lines::push_quoted;
@@ -218,11 +218,8 @@ impl PrintingJob {
     ) -> Result<Vec<u8>, AllocError>
         ensures { IfOk result (λ line. line.items ≡ closeat_line self.now part job size) }
     {
-        let mut line = Vec::new(alloc);
-        write!(line, "closeat {job} {size} ").map_err(|_| AllocError)?;
-        push_quoted(&mut line, document_name(self.documents.get(part)))?;
-        push_media(&mut line, self.media(part))?;
-        line.extend_from_slice(b"\n")?;
+        let mut line = closeat_words(alloc, job, size)?;
+        self.push_document(&mut line, part)?;
         Ok(line)
     }
 
@@ -231,10 +228,25 @@ impl PrintingJob {
     {
         let mut line = Vec::new(alloc);
         write!(line, "close {job} ").map_err(|_| AllocError)?;
-        push_quoted(&mut line, document_name(self.documents.get(part)))?;
-        push_media(&mut line, self.media(part))?;
-        line.extend_from_slice(b"\n")?;
+        self.push_document(&mut line, part)?;
         Ok(line)
+    }
+
+    // Appends the name of a document, its type, and the end of the line.
+    fn push_document(&self, line: &mut Vec<u8>, part: usize) -> Result<(), AllocError>
+        ensures { OnOk result (line.new.items ≡ line.old.items ++ document_words self.now part) }
+    {
+        push_quoted(line, self.name(part))?;
+        push_media(line, self.media(part))?;
+        line.extend_from_slice(b"\n")?;
+        Ok(())
+    }
+
+    // Returns the name of a document.
+    fn name(&self, part: usize) -> &str
+        ensures { result.now ≡ document_name (slice_get self.now.documents.items part) }
+    {
+        document_name(self.documents.get(part))
     }
 
     // Returns the type of a document, unless it is to be detected.
@@ -409,6 +421,14 @@ fn document_media(document: Option<&DocumentName>) -> Option<&str>
         Some(media) => Some(media.as_str()),
         None => None,
     }
+}
+
+fn closeat_words(alloc: Global, job: u32, size: u64) -> Result<Vec<u8>, AllocError>
+    ensures { IfOk result (λ line. line.items ≡ closeat_words job size) }
+{
+    let mut line = Vec::new(alloc);
+    write!(line, "closeat {job} {size} ").map_err(|_| AllocError)?;
+    Ok(line)
 }
 
 // Returns the size of a document after a piece.
