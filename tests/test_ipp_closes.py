@@ -2,6 +2,7 @@
 import contextlib
 import os
 import re
+import select
 import socket
 import subprocess
 import time
@@ -231,8 +232,8 @@ def test_slow_reader(folder, ipp):
         line.connection.settimeout(LONGEST)
         line.connection.connect(ipp.local)
         line.post(message(GET_JOBS, ipp.uri(), attribute(KEYWORD, "requested-attributes", "all")))
-        line.more()
-        time.sleep(1)
+        select.select([line.connection], [], [])
+        time.sleep(0.5)
         status, content = line.reply()
         same("jobs", (status, len(read(content)[1])), (200, 241))
         same("another", line.ask(message(GET_JOB, ipp.uri(), attribute(INTEGER, "job-id", 1)))[0], OK)
