@@ -20,7 +20,7 @@ def first_command(data):
 
 
 class Between:
-    """Passes the commands of each connection to `listener` on to the service of a folder, one by one, during a `with`. `rule` is called with the
+    """Passes the commands of each connection to `listener` on to the service of a folder, each after the last one, during a `with`. `rule` is called with the
     first word of each, and returns None to pass it on, a reply, or how the connection is lost. `together` has the first words of the commands
     that came together.
     """

@@ -305,17 +305,16 @@ impl PrintingJob {
         ensures heard { submission_of self.new ≡ heard_last self.old.sent (submission_of self.old) reply }
         ensures kept { self.new.sent ≡ kept_last self.old.sent reply }
     {
-        match self.sent {
+        match self.sent.take() {
             None => {
                 self.note(last, reply);
                 self.is_put_off = false;
                 self.sent = Some(reply);
             }
             Some(sent) => {
-                let reply = closing_reply(sent, reply);
-                self.is_put_off = matches!(reply, Reply::Later);
-                self.sent = None;
-                self.submission.heard(reply);
+                let both = closing_reply(sent, reply);
+                self.is_put_off = matches!(both, Reply::Later);
+                self.submission.heard(both);
             }
         }
     }
