@@ -9,7 +9,8 @@
 //!
 //! - [`words`]: the arguments, and the files that they name.
 //! - [`names`]: removes a socket that no program serves, so that its name is free.
-//! - [`sockets`]: the listening sockets, the connections of clients and that to the service.
+//! - [`sockets`]: the listening sockets, the connections of clients and that to the service. One is watched for writing only while output
+//!   waits: after a write that can take nothing now it is (`waits` of `MioStream::write`).
 //! - [`clocks`]: the clocks of the system, and its random numbers.
 //!
 //! # Errors
