@@ -44,7 +44,7 @@ PASSED_ON = {
     "ipp_connections": "given",
     # The word of the service.
     "ipp_facts": "failed",
-    "ipp_printing": "close_line find_line indefinite_line job_line moment_line",
+    "ipp_printing": "close_line closeat_words find_line indefinite_line job_line moment_line",
     "ipp_tasks": "answer attribute create_words create_words list_line queue_line",
     # Numbers of held jobs that exceed the greatest usize: no memory can hold that many.
     "job_table": "make_room reserve reserve",

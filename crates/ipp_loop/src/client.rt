@@ -25,6 +25,9 @@ const SLOWEST_HEAD: u64 = 10_000;
 // How long the rest of a body is dropped after the last answer, in milliseconds.
 const LINGER: u64 = 2_000;
 
+// The most commands of a request that are sent together.
+const MOST_TOGETHER: usize = 3;
+
 // The most bytes of the rest of a body that are dropped.
 const MOST_SKIPPED: usize = 262_144;
 
@@ -130,9 +133,9 @@ impl<S: Stream> Client<S> {
         if self.ends {
             return Ok(progress);
         }
-        progress |= self.pull(shared)?;
+        progress |= self.pull_some(shared)?;
         progress |= self.work(shared, times)?;
-        self.send(shared, key)?;
+        self.send_all(shared, key)?;
         progress |= self.write_some();
         self.note_time(shared, progress)?;
         Ok(progress)
@@ -185,6 +188,15 @@ impl<S: Stream> Client<S> {
     }
 
     // ## The request
+
+    // Reads the next part of the request, and what follows it: the end of a body comes with its last bytes.
+    fn pull_some(&mut self, shared: &mut Shared<S>) -> Result<bool, AllocError> {
+        let progress = self.pull(shared)?;
+        if progress && !self.http.has_ended() {
+            self.pull(shared)?;
+        }
+        Ok(progress)
+    }
 
     // Reads the next part of the request.
     fn pull(&mut self, shared: &mut Shared<S>) -> Result<bool, AllocError> {
@@ -394,13 +406,24 @@ impl<S: Stream> Client<S> {
 
     // ## The service
 
-    // Sends the command, if it is not sent yet.
-    fn send(&mut self, shared: &mut Shared<S>, key: usize) -> Result<(), AllocError> {
+    // Sends the commands that are not sent yet, so that they leave together.
+    fn send_all(&mut self, shared: &mut Shared<S>, key: usize) -> Result<(), AllocError> {
+        for _ in 0..MOST_TOGETHER {
+            if !self.send(shared, key)? {
+                break;
+            }
+        }
+        Ok(())
+    }
+
+    // Sends the next command. Returns whether there is one, and a connection with room for it.
+    fn send(&mut self, shared: &mut Shared<S>, key: usize) -> Result<bool, AllocError> {
         if self.unsent(shared.millis).is_none() {
-            return Ok(());
+            return Ok(false);
         }
         if shared.is_away() {
-            return self.desert(shared);
+            self.desert(shared)?;
+            return Ok(false);
         }
         let tag = Tag {
             key,
@@ -413,10 +436,10 @@ impl<S: Stream> Client<S> {
         if sent {
             self.note_sent();
         }
-        Ok(())
+        Ok(sent)
     }
 
-    // Returns the command that is to be sent now.
+    // Returns the next command that is to be sent now.
     fn unsent(&self, millis: u64) -> Option<&[u8]> {
         match &self.state {
             State::Working(task) => task.unsent(millis),
@@ -479,8 +502,8 @@ impl<S: Stream> Client<S> {
         }
     }
 
-    /// Notes that the connection was lost before the reply to the client with this number. The command is sent again, or its effect is
-    /// examined.
+    /// Notes that the connection was lost before the reply to a command of the client with this number. Its commands are sent again, or their
+    /// effect is examined. Each of them is reported.
     pub fn lost(&mut self, alloc: Global, serial: u64)
         ensures { serial ≢ self.old.serial → self.new ≡ self.old }
     {

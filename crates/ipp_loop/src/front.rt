@@ -37,6 +37,8 @@ pub struct Front<S: Stream> {
     more: bool,
     // When the end was requested.
     ends: Option<u64>,
+    // When it was last looked for.
+    looked: u64,
 }
 
 /// The result of a client's turn.
@@ -68,6 +70,7 @@ impl<S: Stream> Front<S> {
             has_new_client: true,
             more: false,
             ends: None,
+            looked: 0,
         })
     }
 
@@ -313,12 +316,21 @@ impl<S: Stream> Front<S> {
     // Returns whether the end was requested, and each request is answered or was waited for.
     fn is_over<R: Sockets<Stream = S>>(&mut self, sockets: &mut R) -> bool {
         let Some(since) = self.ends else {
-            if sockets.is_ending() {
-                self.ends = Some(self.shared.millis);
-            }
+            self.look_for_end(sockets);
             return false;
         };
         self.shared.millis > since.saturating_add(LONGEST_END) || !self.has_request()
+    }
+
+    // Asks the system a few times a second whether the end was requested.
+    fn look_for_end<R: Sockets<Stream = S>>(&mut self, sockets: &mut R) {
+        if self.shared.millis < self.looked.saturating_add(AGAIN) {
+            return;
+        }
+        self.looked = self.shared.millis;
+        if sockets.is_ending() {
+            self.ends = Some(self.shared.millis);
+        }
     }
 
     fn has_request(&self) -> bool {

@@ -1,8 +1,9 @@
 -- The commands about the jobs of a submission.
-use Rattle.std.specs.Prelude.{ℕ, Bool, true, false, List, [], ◌++◌, length, ◌==◌, cond, codes, slice_get, string_bytes, Option, None, Some}
+use Rattle.std.specs.Prelude.{ℕ, ◌+◌, min, Bool, true, false, List, [], ◌++◌, length, ◌==◌, cond, codes, slice_get, string_bytes, Option, None, Some}
 use Rattle.std.specs.Fmt.{decimal}
 use Rattle.std.specs.Option.{option_map}
 use Rattle.command_lines.specs.Replies.{quoted}
+use Rattle.front_submission.specs.declared.reply.Reply.{Reply}
 use Rattle.front_submission.specs.declared.step.Request.{Request}
 use Rattle.front_submission.specs.declared.step.Request.TheVariants.{Create, Find, Read, Send, Show, Hold, Close, Cancel, Nothing}
 use Rattle.ipp_options.specs.declared.hold.Hold as holds
@@ -57,16 +58,41 @@ abbrev pub media_word : Option (List ℕ) → List ℕ
 media_word None = []
 media_word (Some media) = codes " " ++ media
 
+-- The name of a document, its type, and the end of the line.
+abbrev pub document_words : PrintingJob → ℕ → List ℕ
+document_words j part = quoted (document_name (slice_get j.documents.items part)) ++ media_word (media_of j part) ++ codes "\n"
+
 abbrev pub close_line : PrintingJob → ℕ → ℕ → List ℕ
-close_line j part job =
-    codes "close " ++ decimal job ++ codes " " ++ quoted (document_name (slice_get j.documents.items part)) ++ media_word (media_of j part) ++ codes "\n"
+close_line j part job = (codes "close " ++ decimal job ++ codes " ") ++ document_words j part
+
+-- The size of a document after a piece, if it is a number of 64 bits. No document has more bytes.
+abbrev pub size_after : ℕ → ℕ → ℕ
+size_after size piece = min (size + piece) 18446744073709551615
+
+abbrev pub closeat_words : ℕ → ℕ → List ℕ
+closeat_words job size = codes "closeat " ++ decimal job ++ codes " " ++ decimal size ++ codes " "
+
+-- `close` on the condition that the document has this size.
+abbrev pub closeat_line : PrintingJob → ℕ → ℕ → ℕ → List ℕ
+closeat_line j part job size = closeat_words job size ++ document_words j part
+
+-- The last piece, or its close once the reply to the piece has come.
+abbrev pub last_line : Option Reply → PrintingJob → ℕ → ℕ → ℕ → List ℕ
+last_line None j part job size = send_text job j.piece.items
+last_line (Some reply) j part job size = closeat_line j part job size
+
+-- The close that is sent together with the last piece.
+abbrev pub follower_line : Option Reply → PrintingJob → ℕ → ℕ → ℕ → Option (List ℕ)
+follower_line None j part job size = Some (closeat_line j part job size)
+follower_line (Some reply) j part job size = None
 
 -- The command for a request about a part.
 abbrev pub command_for : PrintingJob → ℕ → Request → Option (List ℕ)
 command_for j part Create = Some (create_line j part)
 command_for j part Find = Some (search_line j.found j part)
 command_for j part (Read size) = None
-command_for j part (Send job size piece) = Some (send_text job j.piece.items)
+command_for j part (Send job size piece false) = Some (send_text job j.piece.items)
+command_for j part (Send job size piece true) = Some (last_line j.sent j part job (size_after size piece))
 command_for j part (Show job) = Some (job_line (codes "job") job)
 command_for j part (Hold job) = Some (hold_line job j.hold)
 command_for j part (Close job) = Some (close_line j part job)
@@ -76,3 +102,11 @@ command_for j part Nothing = None
 -- The command for the next request of the submission.
 abbrev pub command_of : PrintingJob → Option (List ℕ)
 command_of j = command_for j j.submission.at (next_request j.submission)
+
+-- The command that may be sent together with that command, before its reply.
+abbrev pub follower_for : PrintingJob → ℕ → Request → Option (List ℕ)
+follower_for j part (Send job size piece true) = follower_line j.sent j part job (size_after size piece)
+follower_for j part request = None
+
+abbrev pub follower_of : PrintingJob → Option (List ℕ)
+follower_of j = follower_for j j.submission.at (next_request j.submission)

@@ -1,11 +1,11 @@
 //! A job of a client, whose documents become jobs of the service.
-ghost use Rattle.std.specs.Prelude.{◌≡◌, ◌⊎◌, ◌++◌, ℕ, List, [], false, codes, string_bytes, IfOk, OnErr, OnOk};
+ghost use Rattle.std.specs.Prelude.{◌≡◌, ◌⊎◌, ◌++◌, ℕ, List, None, [], false, codes, slice_get, string_bytes, IfOk, OnErr, OnOk};
 ghost use Rattle.std.specs.Fmt.{decimal};
 ghost use Rattle.std.specs.Option.{option_map};
 ghost use Rattle.ipp_submission.specs.JobParts.{current, given_up, heard_in, is_ended, lost_in, next_request};
 ghost use Rattle.ipp_options.specs.declared.hold.Hold.TheVariants.{Indefinite};
-ghost use Rattle.ipp_printing.specs.JobCommands.{blank_after, close_line, command_of, create_line, document_media, document_name, find_line, hold_line, job_line, media_of, media_word, option_text, search_line};
-ghost use Rattle.ipp_printing.specs.PrintingJobs.{HearsSome, is_search, meaning, rows_reply, submission_of};
+ghost use Rattle.ipp_printing.specs.JobCommands.{blank_after, close_line, closeat_line, closeat_words, command_of, create_line, document_media, document_name, document_words, find_line, follower_of, hold_line, job_line, last_line, media_of, media_word, option_text, search_line, size_after};
+ghost use Rattle.ipp_printing.specs.PrintingJobs.{HearsSome, heard_by, heard_last, is_search, kept_by, kept_last, rows_reply, submission_of};
 
 use command_lines::push_quoted;
 use front_submission::{Found, Own, Reply, Request, Shown, Step};
@@ -15,7 +15,7 @@ use ipp_options::Hold;
 use ipp_requests::ServiceError;
 use ipp_submission::Submission;
 use service_client::send_text;
-use service_replies::{reply_in, shown_of};
+use service_replies::{closing_reply, reply_in, shown_of};
 use std::alloc::{AllocError, Global};
 use std::io::Write;
 use std::str;
@@ -57,6 +57,8 @@ pub struct PrintingJob {
     pub piece: Vec<u8>,
     /// The job that a search has found.
     pub found: Option<u32>,
+    /// The reply to the last piece, until that to its close has come.
+    pub sent: Option<Reply>,
     /// The last error of the service.
     pub error: ServiceError,
     /// Whether the service has put the last command off.
@@ -110,7 +112,14 @@ impl PrintingJob {
         let line = match next.request {
             Request::Create => self.create_line(alloc, next.part)?,
             Request::Find => self.search_line(alloc, next.part)?,
-            Request::Send { job, .. } => send_text(alloc, job, self.piece.as_slice())?,
+            Request::Send {
+                job,
+                last: false,
+                ..
+            } => send_text(alloc, job, self.piece.as_slice())?,
+            Request::Send {
+                job, size, piece, ..
+            } => self.last_line(alloc, next.part, job, size_after(size, piece))?,
             Request::Show { job } => job_line(alloc, "job", job)?,
             Request::Hold { job } => hold_line(alloc, job, &self.hold)?,
             Request::Close { job } => self.close_line(alloc, next.part, job)?,
@@ -118,6 +127,29 @@ impl PrintingJob {
             Request::Read { .. } | Request::Nothing => return Ok(None),
         };
         Ok(Some(line))
+    }
+
+    /// Returns the command that may be sent together with [`PrintingJob::command`], before its reply. It is the close after the last piece of the
+    /// document. The replies to both are reported in their order.
+    pub fn follower(&self, alloc: Global) -> Result<Option<Vec<u8>>, AllocError>
+        ensures { IfOk result (λ line. option_map (λ line. line.items) line ≡ follower_of self.now) }
+    {
+        if self.sent.is_some() {
+            return Ok(None);
+        }
+        let next = self.submission.request();
+        match next.request {
+            Request::Send {
+                job,
+                size,
+                piece,
+                last: true,
+            } => {
+                let size = size_after(size, piece);
+                Ok(Some(self.closeat_line(alloc, next.part, job, size)?))
+            }
+            _ => Ok(None),
+        }
     }
 
     fn create_line(&self, alloc: Global, part: usize) -> Result<Vec<u8>, AllocError>
@@ -161,15 +193,60 @@ impl PrintingJob {
         Ok(line)
     }
 
+    // Returns the command for the last piece, or for its close once the reply to the piece has come.
+    fn last_line(
+        &self,
+        alloc: Global,
+        part: usize,
+        job: u32,
+        size: u64,
+    ) -> Result<Vec<u8>, AllocError>
+        ensures { IfOk result (λ line. line.items ≡ last_line self.now.sent self.now part job size) }
+    {
+        match self.sent {
+            Some(_) => self.closeat_line(alloc, part, job, size),
+            None => send_text(alloc, job, self.piece.as_slice()),
+        }
+    }
+
+    fn closeat_line(
+        &self,
+        alloc: Global,
+        part: usize,
+        job: u32,
+        size: u64,
+    ) -> Result<Vec<u8>, AllocError>
+        ensures { IfOk result (λ line. line.items ≡ closeat_line self.now part job size) }
+    {
+        let mut line = closeat_words(alloc, job, size)?;
+        self.push_document(&mut line, part)?;
+        Ok(line)
+    }
+
     fn close_line(&self, alloc: Global, part: usize, job: u32) -> Result<Vec<u8>, AllocError>
         ensures { IfOk result (λ line. line.items ≡ close_line self.now part job) }
     {
         let mut line = Vec::new(alloc);
         write!(line, "close {job} ").map_err(|_| AllocError)?;
-        push_quoted(&mut line, document_name(self.documents.get(part)))?;
-        push_media(&mut line, self.media(part))?;
-        line.extend_from_slice(b"\n")?;
+        self.push_document(&mut line, part)?;
         Ok(line)
+    }
+
+    // Appends the name of a document, its type, and the end of the line.
+    fn push_document(&self, line: &mut Vec<u8>, part: usize) -> Result<(), AllocError>
+        ensures { OnOk result (line.new.items ≡ line.old.items ++ document_words self.now part) }
+    {
+        push_quoted(line, self.name(part))?;
+        push_media(line, self.media(part))?;
+        line.extend_from_slice(b"\n")?;
+        Ok(())
+    }
+
+    // Returns the name of a document.
+    fn name(&self, part: usize) -> &str
+        ensures { result.now ≡ document_name (slice_get self.now.documents.items part) }
+    {
+        document_name(self.documents.get(part))
     }
 
     // Returns the type of a document, unless it is to be detected.
@@ -187,7 +264,8 @@ impl PrintingJob {
     pub fn heard(&mut self, alloc: Global, reply: &service_client::Reply) -> Result<(), AllocError>
         ensures hears { OnOk result (HearsSome (submission_of self.old) (submission_of self.new)) }
         ensures heard { OnOk result (is_search (next_request (submission_of self.old)) ≡ false → (last : List ℕ) × ((last ≡ reply.now.last.items) ⊎ (last ≡ []))
-            × (submission_of self.new ≡ heard_in (submission_of self.old) (meaning (next_request (submission_of self.old)) last reply.now.rows.items))) }
+            × (submission_of self.new ≡ heard_by self.old (next_request (submission_of self.old)) last reply.now.rows.items)
+            × (self.new.sent ≡ kept_by self.old.sent (next_request (submission_of self.old)) last)) }
         ensures err { OnErr result (submission_of self.new ≡ submission_of self.old) }
     {
         let last = match str::from_utf8(reply.last.as_slice()) {
@@ -201,12 +279,18 @@ impl PrintingJob {
     fn take(&mut self, alloc: Global, last: &str, rows: &[Vec<u8>]) -> Result<(), AllocError>
         ensures hears { OnOk result (HearsSome (submission_of self.old) (submission_of self.new)) }
         ensures heard { OnOk result (is_search (next_request (submission_of self.old)) ≡ false →
-            submission_of self.new ≡ heard_in (submission_of self.old) (meaning (next_request (submission_of self.old)) last.now rows.now)) }
+            (submission_of self.new ≡ heard_by self.old (next_request (submission_of self.old)) last.now rows.now)
+            × (self.new.sent ≡ kept_by self.old.sent (next_request (submission_of self.old)) last.now)) }
         ensures err { OnErr result (submission_of self.new ≡ submission_of self.old) }
     {
         let reply = reply_in(last);
+        let request = self.submission.request().request;
+        if let Request::Send { last: true, .. } = request {
+            self.heard_last(last, reply);
+            return Ok(());
+        }
         self.note(last, reply);
-        match self.submission.request().request {
+        match request {
             Request::Find => self.heard_search(alloc, reply, rows),
             Request::Show { .. } => self.heard_rows(alloc, reply, rows),
             _ => {
@@ -216,9 +300,29 @@ impl PrintingJob {
         }
     }
 
+    // Takes the reply to the last piece, or that to its close. If the piece was refused, the close is refused for that alone.
+    fn heard_last(&mut self, last: &str, reply: Reply)
+        ensures heard { submission_of self.new ≡ heard_last self.old.sent (submission_of self.old) reply }
+        ensures kept { self.new.sent ≡ kept_last self.old.sent reply }
+    {
+        match self.sent.take() {
+            None => {
+                self.note(last, reply);
+                self.is_put_off = false;
+                self.sent = Some(reply);
+            }
+            Some(sent) => {
+                let both = closing_reply(sent, reply);
+                self.is_put_off = matches!(both, Reply::Later);
+                self.submission.heard(both);
+            }
+        }
+    }
+
     // Notes the error of a reply, and whether the service has put the command off.
     fn note(&mut self, last: &str, reply: Reply)
-        ensures { submission_of self.new ≡ submission_of self.old }
+        ensures submission { submission_of self.new ≡ submission_of self.old }
+        ensures sent { self.new.sent ≡ self.old.sent }
     {
         self.is_put_off = matches!(reply, Reply::Later);
         if matches!(
@@ -237,6 +341,7 @@ impl PrintingJob {
         rows: &[Vec<u8>],
     ) -> Result<(), AllocError>
         ensures ok { OnOk result (submission_of self.new ≡ heard_in (submission_of self.old) (rows_reply reply rows.now)) }
+        ensures sent { self.new.sent ≡ self.old.sent }
         ensures err { OnErr result (submission_of self.new ≡ submission_of self.old) }
     {
         let reply = rows_reply(alloc, reply, rows)?;
@@ -277,9 +382,11 @@ impl PrintingJob {
 
     /// Notes that the connection was lost before the reply.
     pub fn lost(&mut self)
-        ensures { submission_of self.new ≡ lost_in (submission_of self.old) }
+        ensures submission { submission_of self.new ≡ lost_in (submission_of self.old) }
+        ensures sent { self.new.sent ≡ None }
     {
         self.found = None;
+        self.sent = None;
         self.is_put_off = false;
         self.submission.lost();
     }
@@ -313,6 +420,21 @@ fn document_media(document: Option<&DocumentName>) -> Option<&str>
         Some(media) => Some(media.as_str()),
         None => None,
     }
+}
+
+fn closeat_words(alloc: Global, job: u32, size: u64) -> Result<Vec<u8>, AllocError>
+    ensures { IfOk result (λ line. line.items ≡ closeat_words job size) }
+{
+    let mut line = Vec::new(alloc);
+    write!(line, "closeat {job} {size} ").map_err(|_| AllocError)?;
+    Ok(line)
+}
+
+// Returns the size of a document after a piece.
+fn size_after(size: u64, piece: u32) -> u64
+    ensures { result ≡ size_after size piece }
+{
+    size.saturating_add(u64::from(piece))
 }
 
 fn push_media(line: &mut Vec<u8>, media: Option<&str>) -> Result<(), AllocError>

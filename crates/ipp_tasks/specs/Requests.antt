@@ -1,5 +1,5 @@
--- A request in progress: its command, its job, and the header of its answer.
-use Rattle.std.specs.Prelude.{ℕ, Bool, true, false, not, ◌&&◌, ◌||◌, cond, nat_lt, ◌==◌, is_some, List, [], ◌++◌, codes, string_bytes, Option, None, Some}
+-- A request in progress: its commands, its job, and the header of its answer.
+use Rattle.std.specs.Prelude.{ℕ, ◌+◌, Bool, true, false, not, ◌&&◌, ◌||◌, cond, nat_lt, ◌==◌, length, slice_get, List, [], ◌++◌, codes, string_bytes, Option, None, Some}
 use Rattle.std.specs.Fmt.{decimal}
 use Rattle.std.specs.Option.{option_map}
 use Rattle.command_lines.specs.CommandGrammar.{is_word}
@@ -27,9 +27,19 @@ queue_words (Some queue) = codes " queue " ++ queue
 abbrev pub list_line : Option (List ℕ) → ℕ → List ℕ
 list_line queue from = codes "list" ++ queue_words queue ++ codes " from " ++ decimal from ++ codes " most 100\n"
 
--- The command that may be sent at this time.
+abbrev pub count_of : Task → ℕ
+count_of task = length task.commands.items
+
+abbrev pub has_command : Task → Bool
+has_command task = not (count_of task == 0)
+
+-- The next command, if it may be sent at this time.
 abbrev pub unsent_of : Task → ℕ → Option (List ℕ)
-unsent_of task millis = cond (task.is_sent || nat_lt millis task.not_before) None (option_map (λ command. command.items) task.command)
+unsent_of task millis = cond (nat_lt millis task.not_before) None (option_map (λ command. command.items) (slice_get task.commands.items task.sent))
+
+-- How many commands are sent, once the next one is.
+abbrev pub sent_after : Task → ℕ
+sent_after task = cond (nat_lt task.sent (count_of task)) (task.sent + 1) task.sent
 
 abbrev pub is_of : Option (List ℕ) → List ℕ → Bool
 is_of None name = true
@@ -47,19 +57,28 @@ waits_by (Some s) = s.takes
 
 -- The next part of the body is awaited.
 abbrev pub waits_for_body : Task → Bool
-waits_for_body task = not (is_some task.command) && waits_by (submission_in task.work)
+waits_for_body task = not (has_command task) && waits_by (submission_in task.work)
 
 -- The job, if it waits for the next request.
 abbrev pub waiting_by : Option Submitting → Option PrintingJob
 waiting_by None = None
 waiting_by (Some s) = cond (is_ready s.job.submission) (Some s.job) None
 
--- The submission, if its last command may have had an effect.
-abbrev pub abandoned : Bool → Submitting → Progress
-abandoned unanswered s = cond (unanswered && not s.shows) (lost_in s.job.submission) s.job.submission
+-- A command of a submission is sent and has no reply. The last one may only show the job.
+abbrev pub waits_for_reply : Bool → ℕ → ℕ → Bool
+waits_for_reply true sent count = nat_lt 0 sent && nat_lt 1 count
+waits_for_reply false sent count = nat_lt 0 sent && nat_lt 0 count
+
+abbrev pub is_unanswered_by : Task → Option Submitting → Bool
+is_unanswered_by task None = false
+is_unanswered_by task (Some s) = waits_for_reply s.shows task.sent (count_of task)
 
 abbrev pub is_unanswered : Task → Bool
-is_unanswered task = task.is_sent && is_some task.command
+is_unanswered task = is_unanswered_by task (submission_in task.work)
+
+-- The submission, if its last command may have had an effect.
+abbrev pub abandoned : Bool → Submitting → Progress
+abandoned unanswered s = cond unanswered (lost_in s.job.submission) s.job.submission
 
 abbrev pub abandoned_by : Task → Option Submitting → Option Progress
 abandoned_by task s = option_map (abandoned (is_unanswered task)) s

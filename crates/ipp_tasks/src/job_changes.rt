@@ -75,7 +75,7 @@ impl Task {
             ChangeKind::Hold(hold) => hold_line(alloc, change.job, hold)?,
             ChangeKind::Nothing => return Ok(done(alloc, Status::NotPossible)),
         };
-        Ok(self.going(command))
+        self.going(command)
     }
 }
 

@@ -125,7 +125,7 @@ impl Task {
             return Ok(Outcome::Going);
         };
         if let Some(command) = jobs.listing.add(alloc, self.user.as_str(), rows, last)? {
-            return Ok(self.going(command));
+            return self.going(command);
         }
         let groups = jobs.groups(alloc, world, self.host.as_str())?;
         Ok(Outcome::Done(Status::SuccessfulOk, groups))
@@ -145,7 +145,7 @@ impl Task {
             return self.stop_next(alloc);
         }
         if let Some(command) = listing.add(alloc, self.user.as_str(), rows, last)? {
-            return Ok(self.going(command));
+            return self.going(command);
         }
         for job in &listing.selected(alloc)? {
             stops.jobs.push(job.id.get())?;
@@ -164,7 +164,7 @@ impl Task {
         };
         let command = job_line(alloc, "stop", *job)?;
         stops.at = stops.at.saturating_add(1);
-        Ok(self.going(command))
+        self.going(command)
     }
 }
 

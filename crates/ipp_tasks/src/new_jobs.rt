@@ -216,6 +216,7 @@ impl<'a> Beginning<'a> {
             has_document: false,
             piece: Vec::new(self.alloc),
             found: None,
+            sent: None,
             error: ServiceError::Away,
             is_put_off: false,
             used: self.world.seconds,

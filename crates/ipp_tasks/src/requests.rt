@@ -24,6 +24,7 @@ use ipp_values::{Group, Message, Value};
 use printer_answers::PrinterSelection;
 use requested_attributes::Asked;
 use std::alloc::{AllocError, Global};
+use std::collections::VecDeque;
 
 /// The longest name of a user, a job or a document, in bytes.
 pub const LONGEST_NAME: usize = 255;
@@ -119,8 +120,8 @@ impl<'a> Beginning<'a> {
                 user,
                 place: self.caller.place,
                 work,
-                command,
-                is_sent: false,
+                commands: first_of(self.alloc, command)?,
+                sent: 0,
                 not_before: 0,
             })),
             Worked::Answer(status) => Ok(Begun::Answer(header, status, Vec::new(self.alloc))),
@@ -430,6 +431,15 @@ fn numbers(alloc: Global, values: Option<&MessageValues<'_>>) -> Result<Vec<u32>
     }
     numbers.as_mut_slice().sort_unstable();
     Ok(numbers)
+}
+
+// Returns the first command alone, if there is one.
+fn first_of(alloc: Global, command: Option<Vec<u8>>) -> Result<VecDeque<Vec<u8>>, AllocError> {
+    let mut commands = VecDeque::new(alloc);
+    if let Some(command) = command {
+        commands.push_back(command)?;
+    }
+    Ok(commands)
 }
 
 /// Returns at most this many bytes of a text, with `?` for each control character.

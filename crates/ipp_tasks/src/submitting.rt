@@ -1,9 +1,9 @@
 //! Requests that create a job and send its documents.
-ghost use Rattle.std.specs.Prelude.{◌≡◌, ◌⊎◌, true, false, Some, IfOk, OnOk};
+ghost use Rattle.std.specs.Prelude.{◌≡◌, ◌≢◌, ◌⊎◌, ◌&&◌, true, false, Some, IfOk, OnOk};
 ghost use Rattle.ipp_submission.specs.JobParts.{finished, is_ready, with_document};
 ghost use Rattle.ipp_tasks.specs.Answers.{MayAnswer, may_succeed, prints};
-ghost use Rattle.ipp_tasks.specs.Requests.{abandoned, waiting_by};
-ghost use Rattle.ipp_tasks.specs.Submissions.{TakesSome};
+ghost use Rattle.ipp_tasks.specs.Requests.{abandoned, waiting_by, waits_for_reply};
+ghost use Rattle.ipp_tasks.specs.Submissions.{TakesSome, supplied_by};
 
 use crate::answers::{created_names, unsupported_group};
 use crate::tasks::{Outcome, Task, Work, done, refused};
@@ -19,6 +19,7 @@ use requested_attributes::Asked;
 use service_client::Reply;
 use spool_types::MediaType;
 use std::alloc::{AllocError, Global};
+use std::collections::VecDeque;
 use std::mem;
 
 // The longest piece of a document, in bytes.
@@ -57,7 +58,7 @@ pub struct Submitting {
     /// The document of the request, until its first piece has come.
     pub further: Option<DocumentName>,
     pub unsupported: Vec<String>,
-    /// Whether the job is shown now, for the answer.
+    /// Whether the last command shows the job, for the answer.
     pub shows: bool,
 }
 
@@ -73,15 +74,53 @@ impl Submitting {
         }
     }
 
-    /// Returns the job, whose client is lost. `is_unanswered` states whether a command has no reply yet.
+    /// Returns the job, whose client is lost. `is_unanswered` states whether a command of the submission has no reply yet.
     pub fn into_lost(self, is_unanswered: bool) -> PrintingJob
         ensures { result.submission ≡ abandoned is_unanswered self }
     {
         let mut job = self.job;
-        if is_unanswered && !self.shows {
+        if is_unanswered {
             job.lost();
         }
         job
+    }
+
+    /// Returns whether a command of the submission is sent and has no reply yet, if `sent` of `count` commands are sent. The last one may only
+    /// show the job.
+    pub fn is_unanswered(&self, sent: usize, count: usize) -> bool
+        ensures { result ≡ waits_for_reply self.now.shows sent count }
+    {
+        if self.shows {
+            sent > 0 && count > 1
+        } else {
+            sent > 0 && count > 0
+        }
+    }
+
+    /// Appends the commands for the next request, if there is one. After the last piece of a document, its close and the command for the answer
+    /// are sent with it: they have no effect if the piece is refused.
+    pub fn push_commands(
+        &mut self,
+        alloc: Global,
+        commands: &mut VecDeque<Vec<u8>>,
+    ) -> Result<(), AllocError>
+        ensures { self.new.job ≡ self.old.job }
+    {
+        self.shows = false;
+        if let Some(command) = self.job.command(alloc)? {
+            commands.push_back(command)?;
+        }
+        if let Some(command) = self.job.follower(alloc)? {
+            commands.push_back(command)?;
+            commands.push_back(self.show_line(alloc)?)?;
+            self.shows = true;
+        }
+        Ok(())
+    }
+
+    // Returns the command that shows the job.
+    fn show_line(&self, alloc: Global) -> Result<Vec<u8>, AllocError> {
+        job_line(alloc, "job", self.job.number().unwrap_or(0))
     }
 
     // Returns whether the client is to send the next part of its document.
@@ -121,9 +160,24 @@ impl Submitting {
         self.job.piece = http.take_body(alloc, LONGEST_PIECE)?;
         let count = self.job.piece.len();
         if 0 < count && count <= LONGEST_PIECE {
-            self.job.submission.supplied(count as u32);
+            self.supply(count as u32, http.has_ended() && http.body().is_empty());
         }
         Ok(())
+    }
+
+    // Passes a piece on, which has `count` bytes. `is_end` states whether the document of the request ends with it. If it is the last one, and
+    // the only one, its job is closed with it.
+    fn supply(&mut self, count: u32, is_end: bool)
+        requires some { count ≢ 0 }
+        requires ready { is_ready self.old.job.submission ≡ true }
+        ensures { self.new.job.submission ≡ supplied_by (is_end && self.old.is_last) self.old.job.submission count }
+    {
+        if is_end && self.is_last && self.job.submission.closes_with_last() {
+            self.takes = false;
+            self.job.submission.supplied_last(count);
+        } else {
+            self.job.submission.supplied(count);
+        }
     }
 
     // Returns whether the request may be answered with successful-ok: after the last document, only if each job was accepted.
@@ -165,10 +219,8 @@ impl Task {
         if matches!(new.kind, NewKind::Validate) {
             return self.validated(alloc);
         }
-        let command = new.job.command(alloc)?;
         self.submit(is_raw(alloc, rows)?);
-        self.send(command);
-        Ok(Outcome::Going)
+        self.ask(alloc)
     }
 
     fn validated(&mut self, alloc: Global) -> Result<Outcome, AllocError> {
@@ -220,15 +272,15 @@ impl Task {
         Ok(Outcome::Going)
     }
 
-    // Returns whether the fields of the job are awaited, for the answer.
+    // Returns whether the reply has the fields of the job, for the answer. It is that to the last command.
     fn shows(&self) -> bool {
         match &self.work {
-            Work::Printing(submitting) => submitting.shows,
+            Work::Printing(submitting) => submitting.shows && self.commands.is_empty(),
             _ => false,
         }
     }
 
-    // Answers with the fields of the job.
+    // Answers with the fields of the job, unless the job was not closed: then the submission goes on.
     fn shown(
         &self,
         alloc: Global,
@@ -242,7 +294,7 @@ impl Task {
             return Ok(Outcome::Going);
         };
         if !submitting.may_succeed() {
-            return Ok(done(alloc, Status::InternalError));
+            return Ok(Outcome::Going);
         }
         if !is_done(last) {
             return Ok(shown_without_fields(alloc, submitting, last));
@@ -257,7 +309,7 @@ impl Task {
         // *Accepted*, as in `heard`.
         ensures accepted { IfOk result (MayAnswer self.new) }
     {
-        if self.command.is_some() {
+        if self.has_command() {
             return Ok(Outcome::Going);
         }
         let Work::Printing(submitting) = &mut self.work else {
@@ -280,9 +332,7 @@ impl Task {
                 return Ok(Outcome::Going);
             }
         }
-        let command = submitting.job.command(alloc)?;
-        self.send(command);
-        Ok(Outcome::Going)
+        self.ask(alloc)
     }
 
     // The document of the request is whole, or it has none. If it is the last one, the jobs are closed.
@@ -296,9 +346,7 @@ impl Task {
             return self.show(alloc);
         }
         submitting.finish();
-        let command = submitting.job.command(alloc)?;
-        self.send(command);
-        Ok(Outcome::Going)
+        self.ask(alloc)
     }
 
     // Asks for the state of the job, for the answer.
@@ -309,9 +357,8 @@ impl Task {
             return Ok(Outcome::Going);
         };
         submitting.shows = true;
-        let number = submitting.job.number().unwrap_or(0);
-        let command = job_line(alloc, "job", number)?;
-        Ok(self.going(command))
+        let command = submitting.show_line(alloc)?;
+        self.going(command)
     }
 
     // The submission is over: successful-ok is answered only if every job was closed.

@@ -1,9 +1,9 @@
 //! The work of one request: the commands that it sends, and its answer.
-ghost use Rattle.std.specs.Prelude.{◌≡◌, ◌⊎◌, true, false, is_some, string_bytes, None, Some, IfOk, OnOk};
+ghost use Rattle.std.specs.Prelude.{◌≡◌, ◌⊎◌, ◌-◌, drop, true, false, string_bytes, Some, IfOk, OnOk};
 ghost use Rattle.std.specs.Option.{option_map};
 ghost use Rattle.ipp_submission.specs.JobParts.{deserted_in};
 ghost use Rattle.ipp_tasks.specs.Answers.{MayAnswer, is_success, prints, says_ok};
-ghost use Rattle.ipp_tasks.specs.Requests.{abandoned_by, is_of, queue_line, submission_in, unsent_of, waiting_by, waits_for_body};
+ghost use Rattle.ipp_tasks.specs.Requests.{abandoned_by, has_command, is_of, is_unanswered, queue_line, sent_after, submission_in, unsent_of, waiting_by, waits_for_body};
 ghost use Rattle.ipp_tasks.specs.Submissions.{GoesBy, LosesSome, progress_of};
 
 use crate::answers::Header;
@@ -21,6 +21,7 @@ use ipp_values::Group;
 use printer_answers::PrinterSelection;
 use service_client::Reply;
 use std::alloc::{AllocError, Global};
+use std::collections::VecDeque;
 use std::io::Write;
 use std::{mem, str};
 
@@ -109,10 +110,11 @@ pub struct Task {
     pub(crate) user: String,
     pub(crate) place: Place,
     pub(crate) work: Work,
-    /// The command that is to be sent or waits for its reply.
-    pub(crate) command: Option<Vec<u8>>,
-    pub(crate) is_sent: bool,
-    /// When the command may be sent, in milliseconds.
+    /// The commands that are to be sent or wait for their replies, in their order.
+    pub(crate) commands: VecDeque<Vec<u8>>,
+    /// How many of them are sent.
+    pub(crate) sent: usize,
+    /// When a command may be sent, in milliseconds.
     pub(crate) not_before: u64,
 }
 
@@ -125,29 +127,41 @@ impl Task {
 
     /// Returns whether a command is to be sent or waits for its reply.
     pub fn has_command(&self) -> bool
-        ensures { result ≡ is_some self.now.command }
+        ensures { result ≡ has_command self.now }
     {
-        self.command.is_some()
+        !self.commands.is_empty()
     }
 
-    /// Returns the command that is to be sent now.
+    /// Returns the next command that is to be sent now. Several are sent together, each before the replies to those before it.
     pub fn unsent(&self, millis: u64) -> Option<&[u8]>
         ensures { option_map (λ command. command.now) result ≡ unsent_of self.now millis }
     {
-        if self.is_sent || millis < self.not_before {
+        if millis < self.not_before {
             return None;
         }
-        match &self.command {
+        match self.commands.get(self.sent) {
             Some(command) => Some(command.as_slice()),
             None => None,
         }
     }
 
-    /// Notes that the command is sent.
+    /// Notes that the next command is sent.
     pub fn note_sent(&mut self)
-        ensures { self.new ≡ record self.old { is_sent = true } }
+        ensures { self.new ≡ record self.old { sent = sent_after self.old } }
     {
-        self.is_sent = true;
+        if self.sent < self.commands.len() {
+            self.sent += 1;
+        }
+    }
+
+    // Notes that the first command has its reply.
+    fn note_answered(&mut self)
+        ensures commands { self.new.commands.items ≡ drop 1 self.old.commands.items }
+        ensures sent { self.new.sent ≡ self.old.sent - 1 }
+        ensures work { self.new.work ≡ self.old.work }
+    {
+        drop(self.commands.pop_front());
+        self.sent = self.sent.saturating_sub(1);
     }
 
     /// Returns whether the next part of the body is awaited.
@@ -155,29 +169,37 @@ impl Task {
         ensures { result ≡ waits_for_body self.now }
     {
         match &self.work {
-            Work::Printing(submitting) => self.command.is_none() && submitting.takes,
+            Work::Printing(submitting) => self.commands.is_empty() && submitting.takes,
             _ => false,
         }
     }
 
-    /// Sets the next command.
-    pub(crate) fn send(&mut self, command: Option<Vec<u8>>)
-        ensures { self.new ≡ record self.old { command = command; is_sent = false } }
+    /// Sets the only next command. The request goes on with it.
+    pub(crate) fn going(&mut self, command: Vec<u8>) -> Result<Outcome, AllocError>
+        ensures work { self.new.work ≡ self.old.work }
+        ensures going { IfOk result (λ outcome. says_ok outcome ≡ false) }
     {
-        self.command = command;
-        self.is_sent = false;
+        self.commands.clear();
+        self.sent = 0;
+        self.commands.push_back(command)?;
+        Ok(Outcome::Going)
     }
 
-    /// Sets the next command. The request goes on with it.
-    pub(crate) fn going(&mut self, command: Vec<u8>) -> Outcome
-        ensures kept { self.new ≡ record self.old { command = Some command; is_sent = false } }
-        ensures going { says_ok result ≡ false }
+    /// Sets the commands of the submission's next request, if there is one.
+    pub(crate) fn ask(&mut self, alloc: Global) -> Result<Outcome, AllocError>
+        ensures submission { progress_of self.new ≡ progress_of self.old }
+        ensures unsent { self.new.sent ≡ 0 }
+        ensures going { IfOk result (λ outcome. says_ok outcome ≡ false) }
     {
-        self.send(Some(command));
-        Outcome::Going
+        self.commands.clear();
+        self.sent = 0;
+        if let Work::Printing(submitting) = &mut self.work {
+            submitting.push_commands(alloc, &mut self.commands)?;
+        }
+        Ok(Outcome::Going)
     }
 
-    /// Takes the reply to the command.
+    /// Takes the reply to the first command that has none.
     pub fn heard(
         &mut self,
         alloc: Global,
@@ -187,7 +209,7 @@ impl Task {
         // *Accepted*: a request that prints is answered with success only if the service has accepted the job of each document.
         ensures accepted { prints self.old ≡ true → IfOk result (MayAnswer self.new) }
     {
-        self.send(None);
+        self.note_answered();
         let last = match str::from_utf8(reply.last.as_slice()) {
             Ok(last) => last,
             Err(_) => "",
@@ -277,7 +299,7 @@ impl Task {
             _ => None,
         };
         match next {
-            Some(command) => Ok(self.going(command)),
+            Some(command) => self.going(command),
             None => self.shown_printers(alloc),
         }
     }
@@ -300,7 +322,7 @@ impl Task {
         };
         let command = queue_line(alloc, first.as_str())?;
         self.show_printers(alloc, names);
-        Ok(self.going(command))
+        self.going(command)
     }
 
     // Goes on with the printers of these names.
@@ -344,19 +366,33 @@ impl Task {
 
     // ## Losses
 
-    /// Notes that the command has no reply, since the connection was lost. It is sent again, or its effect is examined.
+    /// Notes that a command has no reply, since the connection was lost, which has lost all of them. They are sent again, or their effect is
+    /// examined. A further report of the same loss changes nothing.
     pub fn lost(&mut self, alloc: Global) -> Result<(), AllocError>
         ensures submission { GoesBy LosesSome (progress_of self.old) (progress_of self.new) }
+        ensures unsent { self.new.sent ≡ 0 }
+        ensures again { self.old.sent ≡ 0 → OnOk result (self.new ≡ self.old) }
     {
-        self.is_sent = false;
+        let is_unanswered = self.is_unanswered();
+        self.sent = 0;
+        if !is_unanswered {
+            return Ok(());
+        }
         if let Work::Printing(submitting) = &mut self.work {
-            if !submitting.shows {
-                submitting.job.lost();
-                let command = submitting.job.command(alloc)?;
-                self.send(command);
-            }
+            submitting.job.lost();
+            self.ask(alloc)?;
         }
         Ok(())
+    }
+
+    // Returns whether a command of a submission is sent and has no reply yet.
+    fn is_unanswered(&self) -> bool
+        ensures { result ≡ is_unanswered self.now }
+    {
+        match &self.work {
+            Work::Printing(submitting) => submitting.is_unanswered(self.sent, self.commands.len()),
+            _ => false,
+        }
     }
 
     /// Notes that no service was reachable for too long.
@@ -372,7 +408,7 @@ impl Task {
     pub fn abandon(self) -> Option<PrintingJob>
         ensures { option_map (λ job. job.submission) result ≡ abandoned_by self (submission_in self.work) }
     {
-        let is_unanswered = self.is_sent && self.command.is_some();
+        let is_unanswered = self.is_unanswered();
         match submission_in(self.work) {
             Some(submitting) => Some(submitting.into_lost(is_unanswered)),
             None => None,

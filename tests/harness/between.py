@@ -1,0 +1,85 @@
+"""A proxy between a client of the service and the service, which sees each command and may answer it."""
+import select
+import socket
+import threading
+
+from harness.service import Client
+
+# What a rule may return in place of a reply: the connection is lost before the command, or after it.
+LOST_BEFORE, LOST_AFTER = "lost before", "lost after"
+
+
+def first_command(data):
+    """The first whole command in these bytes, or None."""
+    line, feed, rest = data.partition(b"\n")
+    if not feed:
+        return None
+    words = line.split()
+    length = int(words[2]) + 1 if words[:1] == [b"send"] else 0
+    return data[: len(line) + 1 + length] if len(rest) >= length else None
+
+
+class Between:
+    """Passes the commands of each connection to `listener` on to the service of a folder, each after the last one, during a `with`. `rule` is called with the
+    first word of each, and returns None to pass it on, a reply, or how the connection is lost. `together` has the first words of the commands
+    that came together.
+    """
+
+    def __init__(self, listener, folder, rule=lambda word: None):
+        self.listener, self.folder, self.rule = listener, folder, rule
+        self.together = []
+
+    def __enter__(self):
+        threading.Thread(target=self.accept, daemon=True).start()
+        return self
+
+    def __exit__(self, *fault):
+        self.listener.shutdown(socket.SHUT_RDWR)
+        self.listener.close()
+
+    def accept(self):
+        while True:
+            try:
+                line, _ = self.listener.accept()
+            except OSError:
+                return
+            threading.Thread(target=self.serve, args=(line,), daemon=True).start()
+
+    def serve(self, line):
+        """Serves a connection until it ends or is lost."""
+        try:
+            service, held = Client(self.folder), b""
+            while held is not None and line in select.select([line, service.connection], [], [])[0]:
+                piece = line.recv(1_048_576)
+                held = self.pass_on(line, service, held + piece) if piece else None
+        except OSError:
+            pass
+        line.close()
+
+    def pass_on(self, line, service, data):
+        """Passes on the whole commands in these bytes. Returns the rest, or None if the connection is lost."""
+        words = []
+        while command := first_command(data):
+            words.append(command.split()[0].decode())
+            data = data[len(command) :]
+            if not self.serves(line, service, words[-1], command):
+                data = None
+                break
+        if words:
+            self.together.append(words)
+        return data
+
+    def serves(self, line, service, word, command):
+        """Answers a command. Returns whether the connection continues."""
+        ruled = self.rule(word)
+        if ruled == LOST_BEFORE:
+            return False
+        if ruled not in (None, LOST_AFTER):
+            line.sendall(ruled)
+            return True
+        service.say(command)
+        reply = service.read_to("ok", "error")
+        if ruled == LOST_AFTER:
+            return False
+        line.sendall("".join(f"{row}\n" for row in reply).encode())
+        return True
