@@ -63,7 +63,7 @@ PASSED_ON = {
     "spool_core": "change_areas drive_all finish journal journal_reopening read_front read_payload stage_record take_row take_row",
     "spool_engine": "answer close_typed serve_end serve_whole take_piece",
     # The text is written into memory, so no other error is possible; and an error of the system whose kind says so.
-    "spool_front": "close_line from hold_line hold_line job_line list_line no_words push_moment push_ranks queue_line",
+    "spool_front": "close_line closeat_line from hold_line hold_line job_line list_line no_words push_moment push_ranks queue_line",
     "spool_halves": "ordered_row",
     # An error of the system whose kind says so.
     "spool_runtime": "from mistake no_words read_words words_fault",
@@ -107,7 +107,7 @@ CAPACITIES = {
     ("service_client", "take_byte"): ["1"],
     # 64 KiB, while a document is sent.
     ("service_client", "send_text"): ["count.saturating_add(AROUND_PIECE)"],
-    ("spool_front", "new"): ["PIECE"],
+    ("spool_front", "new"): ["PIECE + 1"],
     ("spool_front", "open"): ["PIECE"],
     ("spool_runtime", "reserve"): ["1"],
     ("spool_service", "push_user"): ["1"],

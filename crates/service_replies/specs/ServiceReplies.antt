@@ -64,7 +64,7 @@ reply_as (Some (failed word)) = failed_as word
 abbrev pub reply_in : List ℕ → Reply
 reply_in line = reply_as (last_line line)
 
--- The reply to the last piece of a document and to the close that was sent together with it. If the job was closed, all bytes were there.
+-- The reply to the last piece of a document and to the close that was sent together with it. If the job was closed, it had all bytes.
 -- Otherwise the close changed nothing, unless its reply is unclear.
 abbrev pub closing_reply : Reply → Reply → Reply
 closing_reply sent (Closed printable) = Closed printable

@@ -33,8 +33,8 @@
 //!
 //! # Promises
 //!
-//! - Commands: the bytes of each command are exact, with each text in quotes (`create_line`, `close_line`, `find_line`,
-//!   `hold_line`, `job_line`, `name_line`, `info_line`, `queue_line`). A text with a control character, which could end its line, is detected
+//! - Commands: the bytes of each command are exact, with each text in quotes (`create_line`, `close_line`, `closeat_line`,
+//!   `find_line`, `hold_line`, `job_line`, `name_line`, `info_line`, `queue_line`). A text with a control character, which could end its line, is detected
 //!   (`has_control`). An action on a job or a queue is sent as the command for that action (`act_line`, `act_text`).
 //! - Owners: a job belongs to the user whom the service has identified, unless the user has named the owner or is an operator (`job_user`).
 //! - Refusals: a refused command is explained by exactly one message, which names the job or the queue (`explain_job`, `explain_queue`) or
@@ -44,8 +44,12 @@
 //! - Replies: `reply_in` returns the meaning of a reply for a submission. After `error disk`, `error dead` or `error busy` it is unknown
 //!   whether the command was executed, so such a reply is never taken for a refusal (`failed_as`). `shown_as` returns the state of a job.
 //! - Pieces: a piece of a document consists of the bytes that were read last, up to 131,071 bytes, and fewer only at the document's end
-//!   (`next_piece`, `piece`). Its last bytes that are not known to have been sent (`last_bytes`) are sent by one command of up to 65,536 bytes,
-//!   or by two (`parts_of`), and the reply to the piece follows from the replies to both (`joined_reply`).
+//!   (`next_piece`, `piece`). One more byte is read ahead, so it is known whether a piece is the last one: exactly if no byte follows it
+//!   (`is_last`). The bytes of a piece that are not known to have been sent (`last_bytes`) are sent by one command of up to 65,536 bytes, or
+//!   by two (`parts_of`), and the reply to the piece follows from the replies to both (`joined_reply`).
+//! - The last piece: the job is closed by `closeat`, which is sent together with it and requires that the job has all bytes (`piece_texts`,
+//!   `closeat_line`). Both have one reply (`closing_reply`). A refusal of this close is never explained: the job is then closed by `close`,
+//!   unless the piece was refused (`reply_to_piece`).
 //! - Progress: the line has exactly the amount, the speed, and a bar if the length of the document is known (`progress_line`).
 //! - The live table: the mirror is told each line of a listing, in order (`tell`).
 //! - JSON: each object has exactly these members (`accepted_json`, `running_json`, `printing_json`, `unfit_json`, `news_json`,
@@ -72,7 +76,7 @@
 //!   piece it is that of its bytes, or of a document that cannot be read (`read_piece`). A submission is reported as accepted or
 //!   unprintable only if the end of the document was read (`submit`), for a reader that reports what is left. Files and standard input use
 //!   the same code.
-//! - Connections: a connection is closed after a fault (`exchange`, `exchange_both`) and after an unclear reply (`after`), and the client knows whether a connection is open (`connect`, `is_connected`). A client changes only its
+//! - Connections: a connection is closed after a fault (`exchange`, `exchange_both`, `exchange_all`) and after an unclear reply (`after`), and the client knows whether a connection is open (`connect`, `is_connected`). A client changes only its
 //!   connection (`kept`).
 //! - `spool check`: `lead_to` returns whether filters convert from a type in the file of types, or from that of an unknown document, to a
 //!   printer's type (`leads`), by the least chain of `mime_costs`. `kinds_in` returns these types.
