@@ -28,7 +28,8 @@ class Service:
     """A simulated service. `replies` has a reply for each prefix of a command; one that is a list has a reply for each time.
 
     `proof` is the reply to `i-am`: a text, None to close the connection, or True for the path of a new name in the folder `proof`. `made` is
-    the reply to `made`: it is given once the command after it has come, so a client that waits for it in between gets none.
+    the reply to `made`: it is given once the command after it has come, so a client that waits for it in between gets none. The same holds for
+    `send` and the close that is sent with it.
     """
 
     def __init__(self, folder, replies, proof=True, made="ok user ann\n", takes=True, path=None):
@@ -85,6 +86,9 @@ class Service:
                 return False
             line.sendall(self.made.encode())
             return self.answer(line, command)
+        if said.startswith("send"):
+            close = self.next(stream)
+            return self.answer(line, said) and self.answer(line, close)
         return self.answer(line, said)
 
     def answer(self, line, said):
@@ -336,7 +340,7 @@ def test_explains_and_goes_on(folder):
 
 # ---- the user of a job
 
-CLOSED = {"send 5": "ok bytes 3\n", "close 5": "ok type a/b stages 1\n"}
+CLOSED = {"send 5": "ok bytes 3\n", "closeat 5 3 ": "ok type a/b stages 1\n"}
 
 
 def submitted(folder, replies, words="", output=None, source=None, **more):
@@ -352,8 +356,8 @@ def creates(service):
 def test_owns_by_its_proved_name(folder):
     service = submitted(folder, {'create "q" "ann"': "ok job 5\n"}, output="request id is q-5 (1 file(s))\n")
     same("users", creates(service), ["ann"])
-    # The proof with `room`, `create`, `send`, `close` and the fields of the job.
-    same("round trips", service.trips, 5)
+    # The proof with `room`, `create`, and `send` with the close.
+    same("round trips", service.trips, 4)
     # The environment names another user: the service's name is used. It comes with the reply to `room`, or to `create` if the length of the
     # document is not known.
     replies = {'create "q" "bob"': "ok job 5\n", 'create "q" ': "error denied\n"}
@@ -377,7 +381,7 @@ def test_owns_as_another_user(folder):
 
 def test_owns_nothing_that_is_denied_later(folder):
     text = f"spool: cannot print on q: the service denies the document ({WHERE}; job 5 is not printed\n"
-    submitted(folder, {"create": "ok job 5\n", "send 5": "error denied\n", "cancel 5": "error denied\n"}, output=text, status=1)
+    submitted(folder, {"create": "ok job 5\n", "send 5": "error denied\n", "closeat 5 3 ": "error size\n", "cancel 5": "error denied\n"}, output=text, status=1)
 
 
 # ---- commands that an older service does not know
@@ -396,9 +400,10 @@ def test_asks_to_stop(folder):
 
 def test_asks_for_a_type(folder):
     service = submitted(folder, {"create": "ok job 5\n"}, "--type text/plain")
-    same("close", service.heard[-1], 'close 5 "doc" "text/plain"')
+    same("close", service.heard[-1], 'closeat 5 3 "doc" "text/plain"')
     text = "spool: cannot print on q: the service does not take the media type; job 5 was canceled\n"
-    submitted(folder, {"create": "ok job 5\n", "close 5": OLDER, "cancel 5": "ok\n"}, "--type text/plain", text, status=1)
+    service = submitted(folder, {"create": "ok job 5\n", "closeat 5 3 ": OLDER, "close 5": OLDER, "cancel 5": "ok\n"}, "--type text/plain", text, status=1)
+    same("close", service.heard[-2], 'close 5 "doc" "text/plain"')
 
 
 def shown(token=""):
