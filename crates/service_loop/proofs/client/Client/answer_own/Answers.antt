@@ -115,11 +115,17 @@ returns-in_ok-stop_job-in-Stop-clause-done g c = (rw c.in-Stop.is c.in_ok-stop_j
 pub returns-in_ok-close_as-in-CloseAs-clause-done : goal.returns-in_ok-close_as-in-CloseAs-clause-done
 returns-in_ok-close_as-in-CloseAs-clause-done g c = (rw c.in-CloseAs.is c.in_ok-close_as-in-CloseAs.ensures.done)
 
+pub returns-in_ok-close_at-in-CloseAt-clause-done : goal.returns-in_ok-close_at-in-CloseAt-clause-done
+returns-in_ok-close_at-in-CloseAt-clause-done g c = (rw c.in-CloseAt.is c.in_ok-close_at-in-CloseAt.ensures.done)
+
 pub stop_job-requires-clause-role : goal.stop_job-requires-clause-role
 stop_job-requires-clause-role g c = subst (λ (word : OwnWord). is_allowed c.args.self.now.standing c.args.shared.now.engine.run_state.spool.state (asking.Own word) ≡ true) c.in-Stop.is c.requires.role
 
 pub close_as-requires-clause-role : goal.close_as-requires-clause-role
 close_as-requires-clause-role g c = subst (λ (word : OwnWord). is_allowed c.args.self.now.standing c.args.shared.now.engine.run_state.spool.state (asking.Own word) ≡ true) c.in-CloseAs.is c.requires.role
+
+pub close_at-requires-clause-role : goal.close_at-requires-clause-role
+close_at-requires-clause-role g c = subst (λ (word : OwnWord). is_allowed c.args.self.now.standing c.args.shared.now.engine.run_state.spool.state (asking.Own word) ≡ true) c.in-CloseAt.is c.requires.role
 
 pub returns-in_ok-add-in-End-clause-done : goal.returns-in_ok-add-in-End-clause-done
 returns-in_ok-add-in-End-clause-done g c =
