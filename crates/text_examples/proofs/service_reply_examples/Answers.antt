@@ -3,11 +3,11 @@ use Rattle.std.specs.Cmp.{nat_cmp_total}
 use Rattle.std.specs.Ordering.{nat_cmp}
 use Rattle.std.specs.Fmt.{digits}
 use Rattle.std.specs.FinMap as finite
-use Rattle.spool_types.specs.State.{Job, job_at}
+use Rattle.spool_types.specs.State.{Job, job_at, nothing}
 use Rattle.spool_types.specs.declared.phase.Hold.TheVariants.{Free}
 use Rattle.spool_types.specs.declared.phase.Phase.TheVariants.{Incoming}
 use Rattle.text_examples.specs.ReplyExamples.{busy}
-use Rattle.text_examples.specs.ServiceExamples.{arriving}
+use Rattle.text_examples.specs.ServiceExamples.{arriving, printing}
 use Rattle.text_examples.proofs.service_reply_examples.Goals as goal
 
 abbrev seven : Job
@@ -18,6 +18,12 @@ five_is = finite.get-insert nat_cmp_total finite.empty 7 seven 5 ∙ finite.get-
 
 seven_is : job_at arriving 7 ≡ Some seven
 seven_is = finite.get-insert nat_cmp_total finite.empty 7 seven 7
+
+busy_is : job_at printing 7 ≡ Some busy
+busy_is = finite.get-insert nat_cmp_total finite.empty 7 busy 7
+
+none_is : job_at nothing 7 ≡ None
+none_is = finite.get-empty nat_cmp 7
 
 pub returns-clause-job : goal.returns-clause-job
 unfolding digits
@@ -57,6 +63,9 @@ returns-clause-piece_line c = refl
 pub returns-clause-left : goal.returns-clause-left
 unfolding digits
 returns-clause-left c = rw (five_is, seven_is) refl
+
+pub returns-clause-size : goal.returns-clause-size
+returns-clause-size c = rw (seven_is, busy_is, none_is) refl
 
 pub returns-clause-measured : goal.returns-clause-measured
 unfolding digits

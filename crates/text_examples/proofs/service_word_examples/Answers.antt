@@ -16,6 +16,10 @@ pub returns-clause-name : goal.returns-clause-name
 unfolding encode_utf8 is_utf8 chars words_of words_within
 returns-clause-name c = refl
 
+pub returns-clause-close_at : goal.returns-clause-close_at
+unfolding encode_utf8 is_utf8 chars words_of words_within
+returns-clause-close_at c = refl
+
 pub returns-clause-list : goal.returns-clause-list
 unfolding encode_utf8 is_utf8 chars words_of words_within
 returns-clause-list c = refl
