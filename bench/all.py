@@ -1,7 +1,7 @@
 #!/usr/bin/env python3
 """Runs the benchmarks one after the other, and prints a table of all: all.py [--list] [--plots] [NAME..]
 
-Each benchmark is a script of this folder, such as `opening`; without NAME all are run, which takes about an hour and a half. A row has the
+Each benchmark is a script of this folder, such as `disk`; without NAME all are run, which takes about an hour and a half. A row has the
 seconds that it took and the load of the machine before and after it; its figures follow. On a busy machine the figures mean little: only
 the ratios of one run can be compared with those of another. --list prints the purpose of each benchmark.
 
@@ -21,7 +21,7 @@ HERE = os.path.dirname(os.path.abspath(__file__))
 OTHERS = ("all", "harness", "ipp_client", "many_spools", "measures", "plots")
 
 # After this many seconds a benchmark is killed.
-SECONDS = 3_600
+SECONDS = 7_200
 
 
 def names():

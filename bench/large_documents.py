@@ -13,7 +13,7 @@ that inspects the first bytes, and with a rule that inspects all bytes. Times de
 import os
 
 from harness.files import write
-from harness.programs import BENCH, SHELL
+from harness.programs import SHELL
 from measures import given_room, needed
 from printing import Spooler
 
@@ -114,7 +114,7 @@ def closes(room, nothing):
 
 def main():
     needed(SHELL)
-    with given_room(BENCH) as room:
+    with given_room() as room:
         nothing = steps(room, "small")
         steps(room, "whole")
         checkpoint(room, nothing)

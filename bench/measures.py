@@ -37,9 +37,28 @@ def given_program(place, usual=SHELL):
     return needed(sys.argv[place] if len(sys.argv) > place else usual)
 
 
-def given_room(usual="."):
-    """A new folder in the one that the first argument names, or in the usual one. It is removed at the end of a `with`."""
-    return tempfile.TemporaryDirectory(dir=os.path.abspath(sys.argv[1] if len(sys.argv) > 1 else usual))
+def given_room():
+    """A new folder in the one that the first argument names, or in the current one. It is removed at the end of a `with`."""
+    return tempfile.TemporaryDirectory(dir=os.path.abspath(sys.argv[1] if len(sys.argv) > 1 else "."))
+
+
+def run_parts(*parts, words=()):
+    """Runs these parts with these words, or those that the further arguments name, with the load of the machine before and after."""
+    named = {part.__name__: part for part in parts}
+    print(f"load of the machine: {os.getloadavg()[0]:.1f}")
+    for name in sys.argv[2:] or named:
+        print(name, flush=True)
+        named[name](*words)
+    print(f"load of the machine: {os.getloadavg()[0]:.1f}", flush=True)
+
+
+def grown(measure, places, by_step=False):
+    """What is measured in each place, and its ratio to that in the first place, or in the one before. Most ratios should be near 1."""
+    before = None
+    for place in places:
+        took = measure(place)
+        yield place, took, took / (before or took)
+        before = took if by_step else before or took
 
 
 # ---- the shell

@@ -24,7 +24,7 @@ import subprocess
 import sys
 
 from harness.files import write
-from harness.programs import BENCH, compiled, SHELL
+from harness.programs import compiled, SHELL
 from measures import given_room, needed, Shell
 
 PROGRAM = "/bin/true"
@@ -125,7 +125,7 @@ def memory(room):
 
 def main():
     needed(SHELL)
-    with given_room(BENCH) as room:
+    with given_room() as room:
         rates(room)
         memory(room)
 

@@ -29,7 +29,6 @@ five minutes. With PART only these parts are run.
 import functools
 import os
 import statistics
-import sys
 import tempfile
 import time
 
@@ -39,7 +38,7 @@ from harness.cups import Cups
 from harness.programs import SERVICE
 from harness.service import Client, Folder, PIECE
 from ipp_client import Connection
-from measures import given_program
+from measures import given_program, run_parts
 
 CLIENTS = (1, 4, 16, 63)
 QUEUES = (1, 8)
@@ -271,16 +270,6 @@ def memory():
 def main():
     Folder.service = given_program(1, SERVICE)
     run_parts(replies, accepted, printed, work, memory)
-
-
-def run_parts(*parts):
-    """Runs these parts, or those that the arguments name, with the load of the machine before and after."""
-    named = {part.__name__: part for part in parts}
-    print(f"load of the machine: {os.getloadavg()[0]:.1f}")
-    for name in sys.argv[2:] or named:
-        print(name, flush=True)
-        named[name]()
-    print(f"load of the machine: {os.getloadavg()[0]:.1f}", flush=True)
 
 
 if __name__ == "__main__":

@@ -301,7 +301,7 @@ def test_pieces_of_many_jobs(folder):
         client.does("disable lab")
         # After the start it examines the table once.
         until("it is idle", lambda: is_idle(folder))
-        works = [work_for(folder, lambda: piece(client, f" from {count // 2}")), work_for(folder, lambda: piece(client, f" user nobody from {count // 2}"))]
+        works = [folder.work_for(lambda: piece(client, f"{words} from {count // 2}"), 40) for words in ("", " user nobody")]
         print(f"  {count} jobs: a piece {works[0]:.2f} ms of the processor, one without a match {works[1]:.2f} ms")
         took.append(works)
         if count > 1_000:
@@ -318,14 +318,6 @@ def is_idle(folder):
     before = work_of(folder.running.pid)
     time.sleep(0.5)
     return work_of(folder.running.pid) - before < 10_000_000
-
-
-def work_for(folder, what, count=40):
-    """The milliseconds of the processor that the service takes for each of `count` calls."""
-    before = work_of(folder.running.pid)
-    for _ in range(count):
-        what()
-    return (work_of(folder.running.pid) - before) / count / 1e6
 
 
 # ---- tokens

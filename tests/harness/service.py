@@ -387,6 +387,13 @@ class Folder:
         fields = Path(f"/proc/{self.running.pid}/stat").read_text().rsplit(") ", 1)[1].split()
         return (int(fields[11]) + int(fields[12])) * 1000 / os.sysconf("SC_CLK_TCK")
 
+    def work_for(self, what, count):
+        """The milliseconds of the processor that it takes for each of `count` calls."""
+        before = work_of(self.running.pid)
+        for _ in range(count):
+            what()
+        return (work_of(self.running.pid) - before) / count / 1e6
+
     def disk_time(self):
         """When the spool was last written."""
         return os.stat(self.at("spool", "spool.disk")).st_mtime_ns
