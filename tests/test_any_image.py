@@ -124,8 +124,7 @@ def real_spools(folder):
         spools.append(read(os.path.join(root, "spool.disk")))
     kinds = {payload[0] for spool in spools for half in journal.halves(spool) for payload in journal.payloads_of(half)}
     missing = {*range(1, 0x12), *range(0x40, 0x44)} - kinds
-    if missing:
-        raise Difference(f"the created spools have no event or row of the kinds {sorted(missing)}")
+    holds(f"the created spools have no event or row of the kinds {sorted(missing)}", not missing)
     return spools
 
 
@@ -433,10 +432,8 @@ def check(root, file):
     lines, errors, status, left, version = wanted_of(file)
     done = serve(root, "".join(f"{command}\n" for command in COMMANDS))
     got = done.stdout.decode().splitlines(), real_children.faults_in(done.stderr.decode()), done.returncode
-    if got != (lines, errors, status):
-        raise Difference(f"{got} in place of {(lines, errors, status)}")
-    if read(path) != left:
-        raise Difference(f"the resulting file differs from the model's, after {lines}")
+    holds(f"{got} in place of {(lines, errors, status)}", got == (lines, errors, status))
+    holds(f"the resulting file differs from the model's, after {lines}", read(path) == left)
     return version
 
 

@@ -92,8 +92,7 @@ class Seat:
     def serves(self):
         """Whether it replies. A service that fails because another program owns the folder is started again, as a systemd unit is."""
         if self.running.poll() is not None:
-            if self.fault_log() != OWNED:
-                raise Difference(f"the service of {self.host.name} ended with {self.running.returncode}: {self.fault_log()}")
+            holds(f"the service of {self.host.name} ended with {self.running.returncode}: {self.fault_log()}", self.fault_log() == OWNED)
             self.refused += 1
             self.launch()
         try:

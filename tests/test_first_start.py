@@ -18,7 +18,7 @@ import tempfile
 
 import pytest
 
-from harness.checks import Difference, words_of_faults
+from harness.checks import Difference, holds, words_of_faults
 from harness.programs import SHELL
 
 pytestmark = pytest.mark.needs("spool_shell")
@@ -113,8 +113,7 @@ def started(root, count, size, held, folders):
             if not held:
                 program.end_input()
         owners = [program.name for program in programs if program.has_answered()]
-        if held and len(owners) != 1:
-            raise Difference(f"the programs {owners} answered, not one")
+        holds(f"the programs {owners} answered, not one", not held or len(owners) == 1)
         for program in programs:
             program.end_input()
         for program in programs:
@@ -146,12 +145,9 @@ def trial(root, count, size, held, folders=()):
     """Programs in one folder, and its contents afterwards."""
     answered = sorted(job for program in started(root, count, size, held, folders) for job in program.jobs())
     listed = listing(root)
-    if not answered or listed != answered:
-        raise Difference(f"listed {listed}, answered {answered}")
-    if [number for number, _ in listed] != list(range(1, len(listed) + 1)):
-        raise Difference(f"numbers are given twice or left out: {listed}")
-    if sorted(os.listdir(root)) != ["spool.disk", "spool.lock"]:
-        raise Difference(f"the folder has {os.listdir(root)}")
+    holds(f"listed {listed}, answered {answered}", answered and listed == answered)
+    holds(f"numbers are given twice or left out: {listed}", [number for number, _ in listed] == list(range(1, len(listed) + 1)))
+    holds(f"the folder has {os.listdir(root)}", sorted(os.listdir(root)) == ["spool.disk", "spool.lock"])
 
 
 @pytest.mark.parametrize("held", [True, False], ids=["input held", "input ended"])

@@ -8,7 +8,7 @@ import subprocess
 import threading
 import time
 
-from harness.checks import Difference, LONGEST, same
+from harness.checks import Difference, holds, LONGEST, same
 from harness.programs import compiled, FRONT
 from harness.service import listening
 
@@ -154,8 +154,7 @@ class Played:
             while said.startswith(self.UNKNOWN) and not said.startswith(wanted):
                 line.sendall(b"error syntax\n")
                 said = stream.readline().decode()
-            if not said.startswith(wanted):
-                raise Difference(f"said {said!r} in place of {wanted!r}")
+            holds(f"said {said!r} in place of {wanted!r}", said.startswith(wanted))
             self.heard.append(said.strip())
             if said.startswith("create"):
                 self.token = said.split("submission=")[1].split('"')[0]
@@ -167,12 +166,9 @@ class Played:
             line.sendall(reply.replace("TOKEN", self.token).encode())
         # No more commands are expected.
         rest = stream.read()
-        if rest:
-            raise Difference(f"said {rest[:100]!r} after the last reply")
+        holds(f"said {rest[:100]!r} after the last reply", not rest)
 
     def end(self):
         self.thread.join(LONGEST)
-        if self.fault:
-            raise Difference(f"the simulated service: {self.fault!r}")
-        if self.thread.is_alive():
-            raise Difference("not all expected commands were sent")
+        holds(f"the simulated service: {self.fault!r}", not self.fault)
+        holds("not all expected commands were sent", not self.thread.is_alive())
