@@ -36,9 +36,7 @@ def test_queues_at_once(place):
     # The numbers of the jobs are in the opposite order of the names of their queues.
     numbers = {number: QUEUES - number for number in range(1, QUEUES + 1)}
     for number, turn in numbers.items():
-        script.ask(f'create q{turn:02} ann "" 1 50 ""', f"ok job {number}")
-        script.document(number, documents[turn])
-        script.ask(f"close {number} page", f"ok type {TYPE} stages 1")
+        script.submit(number, f"q{turn:02}", documents[turn])
     script.ask("round", f"ok started {QUEUES} finished {QUEUES}")
     ask_jobs(script, [listed(number, f"q{turn:02}", DONE, len(documents[turn])) for number, turn in numbers.items()])
     place.print_all(script, "--size", str(1 << 25))
@@ -57,8 +55,7 @@ def ask_devices_at_once(place):
     script = Script()
     for turn, text in ids.items():
         script.ask(f"queue q{turn:02} sideask:{place.at('asked')}-{turn}?id={text} {TYPE} abort-job", "ok")
-        script.ask(f'create q{turn:02} ann "" 1 50 ""', f"ok job {turn + 1}")
-        script.ask(f"close {turn + 1} page", f"ok type {TYPE} stages 1")
+        script.submit(turn + 1, f"q{turn:02}")
     script.ask("round", f"ok started {QUEUES} finished {QUEUES}")
     ask_jobs(script, [listed(turn + 1, f"q{turn:02}", DONE, 0) for turn in ids])
     place.print_all(script)
@@ -121,8 +118,7 @@ def test_many_attempts(place):
     script.ask(f"queue a fails:/x {TYPE} retry-current-job 30 {TURNS}", "ok")
     script.ask(f"queue b prints:/x {TYPE} retry-job 0 0", "ok")
     for number, queue in enumerate("ab", 1):
-        script.ask(f'create {queue} ann "" 1 50 ""', f"ok job {number}")
-        script.ask(f"close {number} page", f"ok type {TYPE} stages 1")
+        script.submit(number, queue)
     script.ask("drain 1000", f"ok rounds {TURNS + 1}")
     ask_jobs(script, [listed(1, "a", "8 retry-limit", 0), listed(2, "b", DONE, 0)])
     script.ask("checkpoint", "ok")
@@ -190,9 +186,7 @@ def test_long_outputs(place):
     added = {1: DOCUMENT - SEND - 1, 2: DOCUMENT - SEND, 3: DOCUMENT - SEND + 1, 4: 3 * DOCUMENT}
     for number, more in added.items():
         script.ask(f"queue q{number} spoolfile:{place.at('printed')}-{number} a/1 abort-job", "ok")
-        script.ask(f'create q{number} ann "{more}" 1 50 ""', f"ok job {number}")
-        script.document(number, document)
-        script.ask(f"close {number} a.page", "ok type a/0 stages 2")
+        script.submit(number, f"q{number}", document, str(more), "a.page", "a/0 stages 2")
     script.ask("round", "ok started 4 finished 4")
     script.ask("round", "ok started 2 finished 2")
     shown = {1: DONE, 2: DONE, 3: "8 filter-failed", 4: "8 filter-failed"}
@@ -223,8 +217,7 @@ class Says:
         self.place.write(f"said-{number}", text)
         self.script.ask(f"queue {queue} says:/x {TYPE} abort-job", "ok")
         title = self.place.at(f"said-{number}")
-        self.script.ask(f'create {queue} ann "{title}" 1 50 ""', f"ok job {number}")
-        self.script.ask(f"close {number} page", f"ok type {TYPE} stages 1")
+        self.script.submit(number, queue, title=title)
         self.jobs.append(listed(number, queue, DONE, 0, pages, title))
         kept = ",".join(sorted(reasons)) or "none"
         self.queues.append(f"queue {queue} 3 accepting {TYPE} abort-job 30 5 {kept} {quoted(message)}")

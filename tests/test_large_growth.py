@@ -121,8 +121,7 @@ def test_files_grow(place):
         place.fresh_spool()
         script = Script()
         script.ask("queue lab spoolfile:/out t/target abort-job", "ok")
-        script.ask('create lab ann "" 1 50 ""', "ok job 1")
-        script.ask(f"close 1 page.s{size - 1}", f"ok type t/t{size - 1} {way}")
+        script.submit(1, "lab", name=f"page.s{size - 1}", closed=f"t/t{size - 1} {way}")
         return place.print_all(script, root=False).seconds
 
     keeps_pace("types", types)
@@ -140,8 +139,7 @@ def test_reports_grow(place):
     place.list_programs()
     script = Script()
     script.ask(f"queue lab says:/x {TYPE} abort-job", "ok")
-    script.ask(f'create lab ann "{place.at("said")}" 1 50 ""', "ok job 1")
-    script.ask("close 1 page", f"ok type {TYPE} stages 1")
+    script.submit(1, "lab", title=place.at("said"))
     script.ask("round", "ok started 1 finished 1")
 
     def read(size, line):

@@ -145,6 +145,12 @@ class Script:
             size += len(piece)
             self.send(number, piece, f"ok bytes {size}")
 
+    def submit(self, number, queue, document=b"", title="", name="page", closed=f"{TYPE} stages 1"):
+        """Creates a job, sends its document, and closes it with this type and number of stages."""
+        self.ask(f'create {queue} ann {quoted(title)} 1 50 ""', f"ok job {number}")
+        self.document(number, document)
+        self.ask(f"close {number} {name}", f"ok type {closed}")
+
 
 class Place:
     """The folder of a part and of its programs, which run in an address space of `limit` KiB."""
