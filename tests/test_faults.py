@@ -19,7 +19,7 @@ from harness import journal
 from harness.admin import image_of_rows
 from harness.checks import LONGEST, same
 from harness.journal import close
-from harness.programs import path_of
+from harness.programs import path_of, shell_on
 from harness.stories import of_q, Q, spelled
 
 # The user nobody, and the rights of a program that runs as it.
@@ -106,12 +106,7 @@ class Room:
 
     def owned(self, name):
         """A program that has the spool of a folder open."""
-        pipe = subprocess.PIPE
-        shell = self.held.enter_context(subprocess.Popen([path_of("spool_shell"), "--root", self.at(name)], stdin=pipe, stdout=pipe))
-        self.held.callback(shell.stdin.close)
-        shell.stdin.write(b"queues\n")
-        shell.stdin.flush()
-        shell.stdout.readline()
+        self.held.enter_context(shell_on(self.at(name)))
 
     def served(self, name):
         """A socket that a program serves."""

@@ -61,9 +61,9 @@ LOG_LINE = re.compile(r"spool: (job \d+ attempt \d+ stage \d+( \S+)?|filter \S+|
 class Shell:
     """A running shell, which gets commands one by one."""
 
-    def __init__(self, words, folder):
+    def __init__(self, words, folder=None, env=None):
         pipe = subprocess.PIPE
-        self.child = subprocess.Popen(words, cwd=folder, stdin=pipe, stdout=pipe, stderr=pipe)
+        self.child = subprocess.Popen(words, cwd=folder, env=env, stdin=pipe, stdout=pipe, stderr=pipe)
 
     def give(self, text):
         self.child.stdin.write(text if isinstance(text, bytes) else text.encode())
@@ -77,6 +77,12 @@ class Shell:
         """SIGKILL, as in a crash. Returns the output that was not read until then, and the error messages."""
         self.child.kill()
         return self.end()
+
+    def finish(self):
+        """Ends its input. Returns the output that was not read until then, the error messages, and its status."""
+        with contextlib.suppress(BrokenPipeError):
+            self.child.stdin.close()
+        return (*self.end(), self.child.returncode)
 
     def end(self):
         self.child.wait()
