@@ -186,11 +186,11 @@ class Folder:
         return sorted(name for name in os.listdir(self.at(self.root)) if name != LOCK)
 
 
-def printed(queue, uri, target="a/a", policy="abort-job", number=1, document=b"", title='""', user="ann", options='""', copies=1):
+def printed(queue, uri, target="a/a", policy="abort-job", number=1, document=b"", title='""', user="ann", options='""', copies=1, name="page.txt"):
     """The script that prints a document on a queue of its own: with the target type b/b through the filter `first`."""
     head = f"queue {queue} {uri} {target} {policy}\ncreate {queue} {user} {title} {copies} 50 {options}\n"
     pieces = b"".join(f"send {number} {len(piece)}\n".encode() + piece + b"\n" for piece in pieces_of(document))
-    return head.encode() + pieces + f"close {number} page.txt\n".encode()
+    return head.encode() + pieces + f"close {number} {name}\n".encode()
 
 
 def states(replies):
