@@ -18,8 +18,8 @@ HOUR = 3_600
 
 
 def watched(folder, **environment):
-    """Lets the service load the library that watches its calls."""
-    library = compiled("watched_calls.c", "-shared", "-fPIC")
+    """Lets the service load the library that watches its calls and changes its clocks."""
+    library = compiled("fast_clock.c", "-shared", "-fPIC")
     folder.environment = {"LD_PRELOAD": library, **environment}
 
 
