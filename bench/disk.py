@@ -3,7 +3,7 @@
 
 It runs crates/spool_shell/out/spool_shell (built by `rt run` in that crate) or PROGRAM in a new folder under the current one, mostly over
 spools whose files it writes byte by byte. It prints the floor next to each time: two writes and two syncs for an event by a plain C program
-(floor.c), or one write and sync of the same number of bytes.
+(floors.c), or one write and sync of the same number of bytes.
 
 - `events`: events, and the longest `send` commands, each of 65,536 bytes, sixteen for a document.
 - `openings`: journals of 1,000 to 1,000,000 events, or rows of a listing, without the time of an opening without events. A ratio near 1

@@ -37,11 +37,6 @@ def given_program(place, usual=SHELL):
     return needed(sys.argv[place] if len(sys.argv) > place else usual)
 
 
-def given_room():
-    """A new folder in the one that the first argument names, or in the current one. It is removed at the end of a `with`."""
-    return tempfile.TemporaryDirectory(dir=os.path.abspath(sys.argv[1] if len(sys.argv) > 1 else "."))
-
-
 def run_parts(*parts, words=()):
     """Runs these parts with these words, or those that the further arguments name, with the load of the machine before and after."""
     named = {part.__name__: part for part in parts}
@@ -162,8 +157,8 @@ def spool_folder(folder, contents):
 # ---- floors
 
 def floor(folder, events, length):
-    """The seconds of an event of this length by the plain program of floor.c: two writes and two syncs."""
-    words = [compiled("floor.c", "-O2"), os.path.join(folder, "floor.disk"), str(events), str(length)]
+    """The seconds of an event of this length by the plain program of floors.c: two writes and two syncs."""
+    words = [compiled("floors.c", "-O2"), os.path.join(folder, "floor.disk"), str(events), str(length)]
     return float(subprocess.run(words, stdout=subprocess.PIPE, check=True).stdout) / events
 
 

@@ -5,7 +5,7 @@ It runs crates/spool_shell/out/spool_shell, crates/spool_service/out/spool_servi
 in those crates), or the programs named, in new folders under FOLDER (default: the current folder), and prints
 
 - `events`: events per second by one program, which waits for each sync of the disk, alternately with two writes and two syncs each by a
-  plain C program (floor.c);
+  plain C program (floors.c);
 - `openings`: for spools of several numbers of waiting jobs, the seconds until the program replies, the seconds of a checkpoint, and the
   memory of the program;
 - `queues`: the same with 64 queues, which share the jobs;

@@ -16,7 +16,7 @@ It runs crates/spool_service/out/spool_service (built by `rt run` in that crate)
   its job data up to 30 s after the reply. Neither directive makes CUPS sync a document. With the program `lp` a job is a process of its
   own, with two requests;
 - `printed`: jobs per second that one queue and eight queues print with a backend that does nothing, in TIMES runs. Before and after each
-  run a C program does the same number of launches and syncs (the floor `whole` of launches.c); the target of the median ratio is 0.9. Ended
+  run a C program does the same number of launches and syncs (the floor `whole` of floors.c); the target of the median ratio is 0.9. Ended
   jobs are kept, so the runs have no purges. Each run follows a pause, because ext4 creates new files more slowly if many were removed in
   the seconds before;
 - `work`: processor time in ten seconds of the service, idle and with eight children that sleep;
