@@ -4,6 +4,7 @@ The peak memory of a program is the `ru_maxrss` that is returned at its end (get
 starts a program as the program's own, so a small shell starts each program and ends at once. Then this process becomes its parent
 (PR_SET_CHILD_SUBREAPER of prctl(2)) and waits for it.
 """
+import contextlib
 import ctypes
 import itertools
 import os
@@ -65,14 +66,12 @@ class Ran:
 
 def write_pieces(file, pieces):
     """Writes each piece by calls of its own, until the reader has closed the pipe."""
-    try:
+    with contextlib.suppress(BrokenPipeError):
         with file:
             for piece in pieces:
                 left = memoryview(piece)
                 while left:
                     left = left[file.write(left) :]
-    except BrokenPipeError:
-        pass
 
 
 def read_into(file, found):

@@ -170,10 +170,8 @@ class Client:
 
 def answer(client):
     """The first line of `queues`, from a service that may have closed the connection after a line of its own."""
-    try:
+    with contextlib.suppress(ConnectionError):
         client.say("queues\n")
-    except ConnectionError:
-        pass
     return client.reply()
 
 
@@ -408,12 +406,10 @@ class Folder:
 
 def kill_children(process):
     """Kills the processes that a process has started: strace leaves them running when it is killed itself."""
-    try:
+    with contextlib.suppress(OSError):
         with open(f"/proc/{process}/task/{process}/children") as file:
             for child in file.read().split():
                 os.kill(int(child), signal.SIGKILL)
-    except OSError:
-        pass
 
 
 def fields_of(lines):
