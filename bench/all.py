@@ -14,6 +14,7 @@ import os
 import subprocess
 import sys
 import time
+from pathlib import Path
 
 HERE = os.path.dirname(os.path.abspath(__file__))
 
@@ -30,8 +31,7 @@ def names():
 
 
 def purpose(name):
-    with open(os.path.join(HERE, f"{name}.py"), encoding="utf-8") as script:
-        return ast.get_docstring(ast.parse(script.read())).partition("\n")[0]
+    return ast.get_docstring(ast.parse(Path(HERE, f"{name}.py").read_text(encoding="utf-8"))).partition("\n")[0]
 
 
 def load():

@@ -18,6 +18,7 @@ import subprocess
 import sys
 import tempfile
 
+from harness.files import read
 from harness.programs import BENCH, CRATES, path_of
 
 CRATE = os.path.join(CRATES, "ipp_codec_tests")
@@ -56,8 +57,7 @@ def renamed(attribute, number):
 
 
 def answer():
-    with open(os.path.join(CRATE, "data", "printer_attributes"), "rb") as file:
-        header, groups = message(file.read())
+    header, groups = message(read(os.path.join(CRATE, "data", "printer_attributes")))
     last = groups[-1][1]
     lacking = ATTRIBUTES - sum(len(attributes) for _, attributes in groups)
     last += [renamed(attribute, number) for number, attribute in enumerate(last[:lacking])]

@@ -18,6 +18,7 @@ import pytest
 from harness import journal
 from harness.admin import image_of_rows
 from harness.checks import LONGEST, same
+from harness.files import write
 from harness.journal import close
 from harness.programs import path_of, shell_on
 from harness.stories import of_q, Q, spelled
@@ -65,9 +66,7 @@ class Room:
         return re.sub(r"\bAT\b", self.path, word)
 
     def file(self, name, content=b"", mode=0o644):
-        with open(self.at(name), "wb") as file:
-            file.write(content)
-        os.chmod(self.at(name), mode)
+        write(self.at(name), content, mode)
 
     def folder(self, name, mode=0o755):
         os.mkdir(self.at(name))

@@ -193,8 +193,7 @@ def test_a_device_that_fails_under_a_supervisor(folder):
     same("the turns", sorted(turns[:2]) + turns[2:], ["begins 1 1", "begins 2 1", "begins 1 2", "ends 1 2", ""])
     same("printed", folder.printed(), "again\n")
     same("nothing is left", "earlier" in folder.log(), False)
-    with open(UNIT, encoding="utf-8") as unit:
-        holds("the unit ends the children", "KillMode=control-group\n" in unit.read())
+    holds("the unit ends the children", "KillMode=control-group\n" in Path(UNIT).read_text(encoding="utf-8"))
 
 
 def test_a_device_that_fails_without_a_command(folder):

@@ -10,6 +10,7 @@ import os
 import shutil
 import subprocess
 import tempfile
+from pathlib import Path
 
 HERE = os.path.dirname(os.path.realpath(__file__))
 TESTS = os.path.dirname(HERE)
@@ -87,7 +88,4 @@ def shell_on(root):
 
 def is_sanitized(program):
     """Whether a program was built with an address sanitizer, which keeps freed memory for a while."""
-    if not os.path.exists(program):
-        return False
-    with open(program, "rb") as file:
-        return b"__asan_" in file.read()
+    return os.path.exists(program) and b"__asan_" in Path(program).read_bytes()
