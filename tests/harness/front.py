@@ -8,8 +8,9 @@ import subprocess
 import threading
 import time
 
+from harness.allocations import counted, variables_for
 from harness.checks import Difference, holds, LONGEST, same
-from harness.programs import compiled, FRONT
+from harness.programs import FRONT
 from harness.service import listening
 
 # The names under which the program is run.
@@ -104,12 +105,12 @@ def number_of(text):
 
 def each_refused(folder):
     """The number and the variables of a run in which this allocation is refused, as long as one was refused."""
-    library, counted = compiled("count_allocations.c", "-shared", "-fPIC"), folder.at("counted")
+    log = folder.at("counted")
     for refused in itertools.count(1):
-        yield refused, {"LD_PRELOAD": library, "REFUSED": str(refused), "COUNTED": counted}
-        if " refused " not in folder.read("counted"):
+        yield refused, variables_for(log, refused)
+        if not counted(log)[1]:
             return
-        os.remove(counted)
+        os.remove(log)
 
 
 class Played:
