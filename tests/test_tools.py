@@ -10,7 +10,6 @@ import contextlib
 import os
 import re
 import resource
-import signal
 import socket
 import subprocess
 import time
@@ -20,7 +19,7 @@ import pytest
 from harness.checks import compare, LONGEST, reports_all, until
 from harness.files import read, write
 from harness.printers import Printer, reset, reset_after, take
-from harness.programs import TOOLS
+from harness.programs import limited, TOOLS
 
 pytestmark = pytest.mark.needs("spool_tools")
 
@@ -68,11 +67,8 @@ def texts():
 
 def run_with_room(size, words, path):
     """The same for an output that is a new file of at most this size."""
-    def limit():
-        signal.signal(signal.SIGXFSZ, signal.SIG_IGN)
-        resource.setrlimit(resource.RLIMIT_FSIZE, (size, size))
-
     with open(path, "wb") as output:
+        limit = limited(resource.RLIMIT_FSIZE, size)
         ended = subprocess.run([TOOLS, *words], stdout=output, stderr=subprocess.PIPE, timeout=LONGEST, preexec_fn=limit)
     return read(path), ended.stderr, ended.returncode
 
@@ -117,11 +113,7 @@ def test_filters(room):
 @reports_all
 def test_bounded(room):
     """A document of 64 MiB and three copies of it, in 32 MiB of memory."""
-    large = write(os.path.join(room, "large"), b"0123456789abcde\n" * (4 << 20))
-
-    def limit():
-        resource.setrlimit(resource.RLIMIT_AS, (32 << 20, 32 << 20))
-
+    large, limit = write(os.path.join(room, "large"), b"0123456789abcde\n" * (4 << 20)), limited(resource.RLIMIT_AS, 32 << 20)
     with open(large, "rb") as given:
         ended = subprocess.run([TOOLS, "texttoprn", *JOB], stdin=given, stdout=subprocess.DEVNULL,
                                stderr=subprocess.PIPE, timeout=LONGEST, preexec_fn=limit)

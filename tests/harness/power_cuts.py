@@ -253,7 +253,7 @@ def moments_of(steps, first):
         elif step.kind == "folder":
             names = names[-1:]
         table = table_of(now)
-        if table and rows_and_version(table) != rows_and_version(tables[-1]):
+        if table and table.contents() != tables[-1].contents():
             tables = [*tables, table]
         if step.kind in ("reply", "start"):
             tables = tables[-1:]
@@ -261,11 +261,6 @@ def moments_of(steps, first):
         if step.kind == "start":
             started |= {step.key}
         yield Moment(kept, written, names, tables, started, ended)
-
-
-def rows_and_version(table):
-    """A table's rows, and the version of its area."""
-    return table.version, table.listing()
 
 
 def table_of(file):

@@ -7,7 +7,9 @@ import atexit
 import contextlib
 import functools
 import os
+import resource
 import shutil
+import signal
 import subprocess
 import tempfile
 from pathlib import Path
@@ -56,8 +58,17 @@ def compiled(name, *words):
     folder = tempfile.mkdtemp(prefix="compiled-")
     atexit.register(shutil.rmtree, folder, ignore_errors=True)
     built = os.path.join(folder, name.removesuffix(".c"))
-    subprocess.run(["gcc", "-O1", *words, "-o", built, source], check=True)
+    subprocess.run(["gcc", "-O1", "-o", built, source, *words], check=True)
     return built
+
+
+def limited(kind, most):
+    """What sets a limit of a new process (getrlimit(2)), for `preexec_fn`. A write beyond it fails, and is not ended by a signal."""
+    def limit():
+        signal.signal(signal.SIGXFSZ, signal.SIG_IGN)
+        resource.setrlimit(kind, (most, most))
+
+    return limit
 
 
 def ended(words, **how):

@@ -420,6 +420,10 @@ class Table:
 
     # ---- its output
 
+    def contents(self):
+        """Its version and its rows."""
+        return self.version, self.listing()
+
     def processing(self):
         return [job for job in self.jobs.values() if job.phase == "processing"]
 
