@@ -247,7 +247,7 @@ def place(request):
     yield made
     adopt(False)
     print(f"peak memory: {made.memory:,} KiB")
-    kept_if_failed(request, made.folder)
+    kept_if_failed(request, made.path)
 
 
 @pytest.fixture

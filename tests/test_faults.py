@@ -18,7 +18,7 @@ import pytest
 from harness import journal
 from harness.admin import image_of_rows
 from harness.checks import LONGEST, same
-from harness.files import write
+from harness.files import Place
 from harness.journal import close
 from harness.programs import path_of, shell_on
 from harness.stories import of_q, Q, spelled
@@ -50,23 +50,21 @@ class Row:
     output: str = os.devnull
 
 
-class Room:
+class Room(Place):
     """The folder of a row, with a spool. Each action of the row is a method with its arguments."""
 
     def __init__(self, path, held):
-        self.path, self.held = path, held
+        super().__init__(path)
+        self.held = held
         os.chmod(path, 0o755)
         self.spool("spool")
-
-    def at(self, name):
-        return os.path.join(self.path, name)
 
     def named(self, word):
         """A word of a row, with the path of the folder."""
         return re.sub(r"\bAT\b", self.path, word)
 
     def file(self, name, content=b"", mode=0o644):
-        write(self.at(name), content, mode)
+        self.write(name, content, mode)
 
     def folder(self, name, mode=0o755):
         os.mkdir(self.at(name))

@@ -8,6 +8,7 @@ import tempfile
 from pathlib import Path
 
 from harness.checks import LONGEST, same, until, words_of_faults
+from harness.files import Place
 from harness.large_run import pieces_of
 from harness.programs import SHELL
 
@@ -93,24 +94,17 @@ class Shell:
         return left
 
 
-class Folder:
+class Folder(Place):
     """The folder of a test: the files of the shell, its programs, and their reports."""
 
     def __init__(self):
-        self.path = tempfile.mkdtemp(prefix="spool-children-")
+        super().__init__(tempfile.mkdtemp(prefix="spool-children-"))
         self.root = "spool"
         self.size = 16_777_216
         os.mkdir(self.at(self.root))
         self.lines = []
         self.write("types", TYPES)
         self.write("convs", CONVS)
-
-    def at(self, *names):
-        return os.path.join(self.path, *names)
-
-    def write(self, name, text, mode=0o644):
-        Path(self.at(name)).write_text(text)
-        os.chmod(self.at(name), mode)
 
     def read(self, name):
         return Path(self.at(name)).read_bytes()

@@ -17,6 +17,7 @@ from pathlib import Path
 
 import pytest
 
+from harness import files
 from harness.checks import quoted, same, same_lines
 from harness.programs import is_sanitized, SHELL, TOOLS
 
@@ -151,26 +152,19 @@ class Script:
         self.ask(f"close {number} {name}", f"ok type {closed}")
 
 
-class Place:
+class Place(files.Place):
     """The folder of a part and of its programs, which run in an address space of `limit` KiB."""
 
     def __init__(self, limit=None):
         self.limit = limit
         # The peak memory of a program so far, in KiB.
         self.memory = 0
-        self.folder = tempfile.mkdtemp(prefix="spool-large-", dir=roomy_folder())
+        super().__init__(tempfile.mkdtemp(prefix="spool-large-", dir=roomy_folder()))
         os.mkdir(self.at("spool"))
         self.lines = []
 
-    def at(self, *names):
-        return os.path.join(self.folder, *names)
-
-    def write(self, name, data):
-        Path(self.at(name)).write_bytes(data)
-
     def read(self, name):
         return Path(self.at(name)).read_bytes()
-
 
     def fresh_spool(self):
         """Removes the spool."""
@@ -190,7 +184,7 @@ class Place:
         self.write("programs", "".join(line + "\n" for line in self.lines).encode())
 
     def run(self, words, pieces=()):
-        ran = run(words, self.folder, pieces, self.limit, LONGEST)
+        ran = run(words, self.path, pieces, self.limit, LONGEST)
         self.memory = max(self.memory, ran.memory)
         return ran
 

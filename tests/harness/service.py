@@ -13,6 +13,7 @@ import time
 from pathlib import Path
 
 from harness.checks import Difference, holds, LONGEST, same, timed, until
+from harness.files import Place
 from harness.programs import SERVICE, SHELL
 
 # Words before the program's own arguments, such as `setarch`.
@@ -212,7 +213,7 @@ def patient_client(folder, longest=LONGEST):
 
 # ---- the folder
 
-class Folder:
+class Folder(Place):
     """The folder of a test: its programs, and the service."""
 
     # The program, and whether the long tests are run in full.
@@ -220,7 +221,7 @@ class Folder:
     is_long = False
 
     def __init__(self, parent=None):
-        self.path = tempfile.mkdtemp(prefix="service-", dir=parent)
+        super().__init__(tempfile.mkdtemp(prefix="service-", dir=parent))
         os.mkdir(self.at("spool"))
         self.socket = self.at("spool", "spool.sock")
         self.running = None
@@ -232,13 +233,9 @@ class Folder:
         self.lines = []
         self.backend("slow", BACKEND)
 
-    def at(self, *names):
-        return os.path.join(self.path, *names)
-
     def write(self, name, text, mode=0o644):
         """Writes bytes, or a text in which FOLDER is the path of this folder."""
-        Path(self.at(name)).write_bytes(text if isinstance(text, bytes) else text.replace("FOLDER", self.path).encode())
-        os.chmod(self.at(name), mode)
+        return super().write(name, text if isinstance(text, bytes) else text.replace("FOLDER", self.path), mode)
 
     def read(self, name):
         """The contents of a file, which may not exist."""
