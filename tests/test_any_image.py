@@ -137,7 +137,7 @@ def as_version_one_has_it(payload):
     if payload[:1] == b"\x11":
         return b"\x05" + payload[1:-8]
     if payload[:1] == b"\x42":
-        return replace(journal.read_row(payload), by=None).payload(version=1)
+        return replace(model.read_row(payload), by=None).payload(version=1)
     return payload
 
 
@@ -376,8 +376,8 @@ def changed_moment(payload, is_old, chance):
     """Gives the row of a job another deadline, or none, or no field for one. A payload that is no row is unchanged."""
     for version in journal.VERSIONS:
         try:
-            row = journal.read_row(payload, version)
-        except (AssertionError, KeyError, IndexError, UnicodeDecodeError):
+            row = model.read_row(payload, version)
+        except model.Unfit:
             continue
         by = chance.choice([None, row.by, 0, 900, 1_000, 2_500, model.GREATEST_MOMENT, model.GREATEST_MOMENT + 1])
         return replace(row, by=None).payload(version=1) if is_old else replace(row, by=by).payload()

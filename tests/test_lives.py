@@ -26,7 +26,7 @@ from pathlib import Path
 
 import pytest
 
-from harness import journal
+from harness import journal, spool_model as model
 from harness.checks import Difference, holds
 from harness.child_folder import Shell
 
@@ -66,7 +66,7 @@ def attempts_in(content):
     found, version = {}, journal.current_version(content)
     for payload in journal.current(content)[0]:
         if payload[0] == ROW:
-            row = journal.read_row(payload, version)
+            row = model.read_row(payload, version)
             found[row.number] = row.attempts
         elif payload[0] == START:
             number = int.from_bytes(payload[1:5], "big")
