@@ -23,10 +23,10 @@ the work of the program itself. No test checks them. With PART only these parts 
 import collections
 import os
 import random
-import struct
 import sys
 import tempfile
 
+from harness import journal
 from harness.checks import timed
 from harness.files import read
 from harness.service import PIECE
@@ -38,8 +38,6 @@ PIECES = 16  # for a document of the greatest length
 DOCUMENTS = 32
 COUNTS = (1_000, 10_000, 100_000, 1_000_000)
 
-HEADER = 16  # bytes of an area's header
-GATE = b"\xa5"
 CLOCK = 14  # bytes of a clock's record
 
 CANCELED = (1, 100, 1_000)
@@ -55,19 +53,18 @@ def opened(program, folder, contents):
         return least_served(b"", "--root", ".", program=program, cwd=root)[0]
 
 
-def record_length(payload):
-    """The bytes of a record: its gate, the payload's length and the payload."""
-    return 1 + 4 + payload
-
-
 def journal_end(root):
     """The offset after the last record of a spool that uses only its first area."""
-    disk = read(os.path.join(root, "spool.disk"))
-    at = HEADER
-    while disk[at : at + 1] == GATE:
-        (payload,) = struct.unpack(">I", disk[at + 1 : at + 5])
-        at += record_length(payload)
-    return at
+    return journal.places(journal.current(read(os.path.join(root, "spool.disk")))[0])[-1]
+
+
+def event_seconds(program, folder, before, script, count, size=1 << 22):
+    """The seconds of one of the `count` events of a script, on a new spool of this size after other commands, and the bytes of its record."""
+    words = {"program": program, "cwd": tempfile.mkdtemp(dir=folder)}
+    served(before, "--root", ".", "--size", str(size), **words)
+    start = journal_end(words["cwd"])
+    took = served(script, "--root", ".", **words)[0] - least_served(b"", "--root", ".", **words)[0]
+    return took / count, (journal_end(words["cwd"]) - start) // count
 
 
 def events(program, folder):
@@ -75,18 +72,14 @@ def events(program, folder):
     piece = bytes(PIECE)
     documents = range(1, DOCUMENTS + 1)
     longest = b"".join(b"send %d %d\n%b\n" % (job, PIECE, piece) for job in documents for _ in range(PIECES))
-    for name, before, script, count, size in (
-        ("events", QUEUE, CREATE * EVENTS, EVENTS, 1 << 22),
+    for name, *words in (
+        ("events", QUEUE, CREATE * EVENTS, EVENTS),
         ("sends", QUEUE + CREATE * DOCUMENTS, longest, DOCUMENTS * PIECES, 4 * len(longest)),
     ):
         for _ in range(3):
-            words = {"program": program, "cwd": tempfile.mkdtemp(dir=folder)}
-            served(before, "--root", ".", "--size", str(size), **words)
-            start = journal_end(words["cwd"])
-            took = (served(script, "--root", ".", **words)[0] - least_served(b"", "--root", ".", **words)[0]) / count
-            length = (journal_end(words["cwd"]) - start) // count
-            least = floor(folder, count, length)
-            print(f"  {count:5} {name} of {length:6} bytes: {1 / took:8.0f} a second, the floor {1 / least:8.0f}, ratio {took / least:5.2f}")
+            took, length = event_seconds(program, folder, *words)
+            least = floor(folder, words[2], length)
+            print(f"  {words[2]:5} {name} of {length:6} bytes: {1 / took:8.0f} a second, the floor {1 / least:8.0f}, ratio {took / least:5.2f}")
 
 
 def openings(program, folder):

@@ -27,7 +27,8 @@ from harness.checks import at_once, same, timed
 from harness.programs import ADMIN, ended, SERVICE, SHELL
 from harness.service import Folder, PIECE
 from harness.written_spools import rows, spool
-from measures import CREATE, floor, needed, QUEUE, served, Shell, written
+from disk import event_seconds
+from measures import CREATE, floor, needed, QUEUE, Shell, written
 from service import ACCEPTED, CLIENTS, RunningService, share_of, submit_some
 
 QUEUES = 64
@@ -54,11 +55,8 @@ class TimedShell(Shell):
 def events(folder, shell, costs):
     found = []
     for _ in range(TURNS):
-        words = {"program": shell, "cwd": tempfile.mkdtemp(dir=folder)}
-        served(QUEUE, "--root", ".", **words)
-        opened, _ = served(b"", "--root", ".", **words)
         before = floor(folder, EVENTS, 60)
-        took = (served(EVENTS * CREATE, "--root", ".", **words)[0] - opened) / EVENTS
+        took, _ = event_seconds(shell, folder, QUEUE, EVENTS * CREATE, EVENTS)
         after = floor(folder, EVENTS, 60)
         found.append((took, (before + after) / 2))
     took, least = (statistics.median(column) for column in zip(*found))
