@@ -48,7 +48,7 @@ def run_parts(*parts, words=()):
 
 
 def grown(measure, places, by_step=False):
-    """What is measured in each place, and its ratio to that in the first place, or in the one before. Most ratios should be near 1."""
+    """Each place with its measure, and the ratio of this to that of the first place, or of the one before. Most should be near 1."""
     before = None
     for place in places:
         took = measure(place)

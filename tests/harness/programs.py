@@ -63,7 +63,7 @@ def compiled(name, *words):
 
 
 def limited(kind, most):
-    """What sets a limit of a new process (getrlimit(2)), for `preexec_fn`. A write beyond it fails, and is not ended by a signal."""
+    """A function that sets a limit of a new process (getrlimit(2)), for `preexec_fn`. A write beyond it fails, and is not ended by a signal."""
     def limit():
         signal.signal(signal.SIGXFSZ, signal.SIG_IGN)
         resource.setrlimit(kind, (most, most))
