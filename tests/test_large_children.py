@@ -28,7 +28,6 @@ def rows_of(place):
 def test_queues_at_once(place):
     """64 queues print in one round, each a document of its own, and then all of them again with a side channel."""
     place.tool("backend", "spoolfile")
-    place.list_programs()
     documents = {turn: bytes_of(turn, turn * 1_111) for turn in range(QUEUES)}
     script = Script()
     for turn in documents:
@@ -50,7 +49,6 @@ def ask_devices_at_once(place):
     place.fresh_spool()
     place.tool("backend", "sideask")
     place.lines.append(f"side {TOOLS} side-end")
-    place.list_programs()
     ids = {turn: f"MFG:{turn};" * (turn + 1) for turn in range(QUEUES)}
     script = Script()
     for turn, text in ids.items():
@@ -80,7 +78,6 @@ def test_stages_and_attempts(place):
     """A job of 15 filters and a backend, thirteen times: 208 rounds, each with the output of the previous stage."""
     place.script("filter", "passes", PASSES)
     place.script("backend", "last", AT_LAST)
-    place.list_programs()
     place.write("types", TYPES.encode())
     place.write("convs", "".join(f"a/{n} a/{n + 1} 10 passes\n" for n in range(STAGES - 1)).encode())
     script = Script()
@@ -113,7 +110,6 @@ def test_many_attempts(place):
     """Two jobs that are tried 200 times, each by its policy: one until its limit, and one until it prints."""
     place.script("backend", "fails", FAILS)
     place.script("backend", "prints", PRINTS_LAST)
-    place.list_programs()
     script = Script()
     script.ask(f"queue a fails:/x {TYPE} retry-current-job 30 {TURNS}", "ok")
     script.ask(f"queue b prints:/x {TYPE} retry-job 0 0", "ok")
@@ -140,7 +136,6 @@ MANY = 8
 def test_long_documents(place):
     """Documents of 16,777,216 bytes on eight queues at once, whose types are detected from their last bytes, and not a byte more."""
     place.tool("backend", "spoolfile")
-    place.list_programs()
     place.write("types", f"a/tail string({DOCUMENT - 5},TAIL!)\n".encode())
     documents = {number: bytes_of(number, DOCUMENT - 5) + b"TAIL!" for number in range(1, MANY + 1)}
     script = Script()
@@ -178,7 +173,6 @@ def test_long_outputs(place):
     """An output of 16,777,216 bytes is passed to the next stage. One byte more is lost, and so are 48 MiB."""
     place.script("filter", "adds", ADDS)
     place.tool("backend", "spoolfile")
-    place.list_programs()
     place.write("types", TYPES.encode())
     place.write("convs", b"a/0 a/1 10 adds\n")
     document = bytes_of(3, SEND)
@@ -209,7 +203,6 @@ class Says:
         self.rows = []
         self.dropped = []
         place.script("backend", "says", REPORTS)
-        place.list_programs()
 
     def add(self, text, pages=0, reasons=(), message="", attributes=(), dropped=None):
         number = len(self.jobs) + 1

@@ -224,7 +224,6 @@ def test_gibibyte_made(place):
 def test_gibibyte_file(place):
     """A spool of 1 GiB in a file, with the first area filled up to its end, and then with the second one."""
     place.tool("backend", "spoolfile")
-    place.list_programs()
     for base in (0, HALF):
         used_to_the_end(place, base)
 

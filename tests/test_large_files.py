@@ -60,7 +60,6 @@ def test_long_files(place):
     for number in range(LINES):
         place.lines.append(f"filter direct{number} /bin/sh {place.at('filter-inward')}")
         place.lines.append(f"backend b{number} /bin/sh {place.at('filter-inward')}")
-    place.list_programs()
     chosen = [0, 1, 12, 13, 19, 2_500, LINES - 7, LINES - 1]
     script = Script()
     for job, number in enumerate(chosen, 1):
@@ -103,7 +102,6 @@ def test_long_queries(place):
     place.lines.append(f"backend a /bin/sh {place.at('wrapper')}")
     place.write("wrapper", f'exec python3 -ES {place.at("asks")}\n'.encode())
     place.lines.append(f"side {TOOLS} side-end")
-    place.list_programs()
     # The last of 64 options sets the state. With one more option all have their defaults.
     options = "&".join(f"o{n}=v" for n in range(62)) + "&id=x"
     queries = {

@@ -136,7 +136,6 @@ def test_reports_grow(place):
     """About a mebibyte on standard error, in lines of each kind."""
     kinds = [b"PAGE: 1 2\n", b"STATE: +media-empty,toner-low\n", b"DEBUG: " + 60 * b"x" + b"\n", b"y\n"]
     place.script("backend", "says", REPORTS)
-    place.list_programs()
     script = Script()
     script.ask(f"queue lab says:/x {TYPE} abort-job", "ok")
     script.submit(1, "lab", title=place.at("said"))

@@ -178,7 +178,6 @@ SCARCE_ROUNDS = (6_000, 5_200, 5_000, 4_600, 4_200)
 def test_scarce_rounds(place):
     """Eight long documents are closed and printed with too little memory, and then with enough: each is complete in the end."""
     place.tool("backend", "spoolfile")
-    place.list_programs()
     for limit in SCARCE_ROUNDS:
         place.fresh_spool()
         script = Script()

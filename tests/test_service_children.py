@@ -6,7 +6,7 @@ import pytest
 
 from harness.checks import holds, same, until
 from harness.child_folder import SIDE_END
-from harness.service import Client, is_there, listings, started, TYPE, undelayed, WAITS
+from harness.service import Client, is_there, listings, started, TYPE, undelayed
 
 # A backend that writes its process number and hangs, with a child of its own.
 HANGS = """#!/bin/sh
@@ -32,7 +32,6 @@ echo "ends $PRINTER" >>FOLDER/turns
 
 
 def test_a_job_prints_while_a_slow_one_does(folder):
-    folder.backend("waits", WAITS)
     client = folder.open("slow", scheme="waits")
     folder.queue(client, "fast")
     usual = listings(client)
@@ -72,7 +71,6 @@ def test_at_most_two_at_once(folder):
 
 def test_a_child_that_hangs(folder):
     """It delays neither a hundred jobs of other queues nor a client, and `end` ends it with all processes that it has started."""
-    folder.backend("hangs", HANGS)
     client = folder.open("stuck", policy="abort-job", scheme="hangs")
     for number in range(4):
         folder.queue(client, f"q{number}")
@@ -96,7 +94,6 @@ def test_a_child_that_hangs(folder):
 
 def test_a_child_of_a_canceled_job(folder):
     """It blocks its queue until it has ended, and is ended by `end` as well."""
-    folder.backend("hangs", HANGS)
     client = folder.open("stuck", scheme="hangs")
     first, second = client.submit("stuck"), client.submit("stuck")
     client.until_state(first, "5")
@@ -158,7 +155,6 @@ def with_side_channels(folder):
 def test_a_child_with_a_side_channel(folder):
     """It is ended too, although another process starts its session."""
     with_side_channels(folder)
-    folder.backend("hangs", HANGS)
     client = folder.open("stuck", policy="abort-job", scheme="hangs")
     job = client.submit("stuck")
     pids = started(folder, 2)

@@ -13,7 +13,7 @@ import pytest
 from harness.allocations import counted, variables_for
 from harness.checks import Difference, holds, LONGEST, same, until, words_of_faults
 from harness.programs import path_of, ROOT
-from harness.service import Client, Folder, Gone, KEEPS, kept, patient_client, send_document, Submitter, TYPE
+from harness.service import Client, Folder, Gone, kept, patient_client, send_document, Submitter, TYPE
 
 # ---- the name of the spool
 
@@ -36,7 +36,6 @@ def test_names_that_are_taken_away(folder):
     """If the spool's file loses its name, by a removal or a rename, the next change gives the name to a copy. The copy has everything, before
     and after a checkpoint, which changes the half of the journal.
     """
-    folder.backend("keeps", KEEPS)
     client, chance = folder.open("q", scheme="keeps"), random.Random(5)
     disk, documents = folder.at("spool", "spool.disk"), {}
     for turn, take in enumerate((os.remove, lambda path: os.rename(path, folder.at("elsewhere")), os.remove, os.remove)):

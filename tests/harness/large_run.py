@@ -180,9 +180,6 @@ class Place(files.Place):
         self.write(f"{kind}-{name}", text.encode())
         self.lines.append(f"{kind} {name} /bin/sh {self.at(f'{kind}-{name}')}")
 
-    def list_programs(self):
-        self.write("programs", "".join(line + "\n" for line in self.lines).encode())
-
     def run(self, words, pieces=()):
         ran = run(words, self.path, pieces, self.limit, LONGEST)
         self.memory = max(self.memory, ran.memory)
@@ -201,6 +198,8 @@ class Place(files.Place):
 
     def print_all(self, script, *words, **how):
         """Serves a script with the programs and files of this folder."""
+        if self.lines:
+            self.write("programs", "".join(f"{line}\n" for line in self.lines))
         there = [name for name in ("types", "convs", "programs") if os.path.exists(self.at(name))]
         files = [word for name in there for word in (f"--{name}", name)]
         return self.serve(script, *files, *words, **how)

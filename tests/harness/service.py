@@ -35,6 +35,13 @@ WAITS = '#!/bin/sh\nwhile [ ! -e FOLDER/go ]; do sleep 0.05; done\ncat "${6:--}"
 ENDS = '#!/bin/sh\nexit "${DEVICE_URI##*/}"\n'
 HANGS = "#!/bin/sh\necho $$ >>FOLDER/pids\nexec sleep 1000\n"
 
+# A backend that keeps the bytes of each job in a file of its own, and one that prints when it may.
+KEEPS = '#!/bin/sh\ncat "${6:--}" >FOLDER/kept-$1.new\nmv FOLDER/kept-$1.new FOLDER/kept-$1\n'
+PRINTS = '#!/bin/sh\nwhile [ ! -e FOLDER/backend-$1 ]; do sleep 0.05; done\ncat >/dev/null\n'
+
+# The backends of each folder, by their schemes.
+BACKENDS = {"slow": BACKEND, "waits": WAITS, "ends": ENDS, "hangs": HANGS, "keeps": KEEPS, "prints": PRINTS}
+
 # A filter that sleeps, and passes on the document.
 FILTER = '#!/bin/sh\nsleep SECONDS\necho first >>FOLDER/stages\ncat "$6"\n'
 
@@ -231,7 +238,8 @@ class Folder(Place):
         self.words = []
         self.environment = {}
         self.lines = []
-        self.backend("slow", BACKEND)
+        for name, text in BACKENDS.items():
+            self.backend(name, text)
 
     def write(self, name, text, mode=0o644):
         """Writes bytes, or a text in which FOLDER is the path of this folder."""
@@ -252,10 +260,9 @@ class Folder(Place):
     # ---- programs
 
     def program(self, kind, name, text):
-        """Writes a program, and adds it to the programs file."""
-        file = f"{kind}-{name}"
-        self.write(file, text, 0o755)
-        self.lines.append(f"{kind} {name} {self.at(file)}\n")
+        """Writes a program, and adds it to the programs file if it is not there."""
+        line = f"{kind} {name} {self.write(f'{kind}-{name}', text, 0o755)}\n"
+        self.lines += [line] if line not in self.lines else []
         self.write("programs", "".join(self.lines))
 
     def backend(self, name, text):
@@ -478,10 +485,6 @@ def undelayed(what, meanwhile, usual, slack=SLACK):
 # The most bytes of a `send`.
 PIECE = 65_536
 
-# A backend that keeps the bytes of each job in a file of its own.
-KEEPS = '#!/bin/sh\ncat "${6:--}" >FOLDER/kept-$1.new\nmv FOLDER/kept-$1.new FOLDER/kept-$1\n'
-
-
 def kept(folder, job):
     return Path(folder.at(f"kept-{job}")).read_bytes()
 
@@ -500,7 +503,7 @@ def send_document(client, job, data):
         sent = send_piece(client, job, data, sent)
 
 
-# A filter that says something when it may, and a backend that prints when it may.
+# A filter that says something when it may.
 SAYS = """#!/bin/sh
 while [ ! -e FOLDER/filter-$1 ]; do sleep 0.05; done
 echo 'STATE: +toner-empty-error,media-low-warning' >&2
@@ -508,8 +511,6 @@ echo 'ATTR: marker-levels=5' >&2
 echo "INFO: job $1, $3" >&2
 cat "$6"
 """
-
-PRINTS = '#!/bin/sh\nwhile [ ! -e FOLDER/backend-$1 ]; do sleep 0.05; done\ncat >/dev/null\n'
 
 
 def started(folder, count):
