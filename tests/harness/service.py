@@ -260,7 +260,7 @@ class Folder(Place):
     # ---- programs
 
     def program(self, kind, name, text):
-        """Writes a program, and adds it to the programs file if it is not there."""
+        """Writes a program, and adds it to the programs file, once."""
         line = f"{kind} {name} {self.write(f'{kind}-{name}', text, 0o755)}\n"
         self.lines += [line] if line not in self.lines else []
         self.write("programs", "".join(self.lines))
