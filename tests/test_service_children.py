@@ -71,6 +71,7 @@ def test_at_most_two_at_once(folder):
 
 def test_a_child_that_hangs(folder):
     """It delays neither a hundred jobs of other queues nor a client, and `end` ends it with all processes that it has started."""
+    folder.backend("hangs", HANGS)
     client = folder.open("stuck", policy="abort-job", scheme="hangs")
     for number in range(4):
         folder.queue(client, f"q{number}")
@@ -94,6 +95,7 @@ def test_a_child_that_hangs(folder):
 
 def test_a_child_of_a_canceled_job(folder):
     """It blocks its queue until it has ended, and is ended by `end` as well."""
+    folder.backend("hangs", HANGS)
     client = folder.open("stuck", scheme="hangs")
     first, second = client.submit("stuck"), client.submit("stuck")
     client.until_state(first, "5")
@@ -155,6 +157,7 @@ def with_side_channels(folder):
 def test_a_child_with_a_side_channel(folder):
     """It is ended too, although another process starts its session."""
     with_side_channels(folder)
+    folder.backend("hangs", HANGS)
     client = folder.open("stuck", policy="abort-job", scheme="hangs")
     job = client.submit("stuck")
     pids = started(folder, 2)
