@@ -1,7 +1,7 @@
 #!/usr/bin/env python3
 """Runs the benchmarks one after the other, and prints a table of all: all.py [--list] [--plots] [NAME..]
 
-Each benchmark is a script of this folder, such as `opening`; without NAME all are run, which takes about an hour and a half. A row has the
+Each benchmark is a script of this folder, such as `disk`; without NAME all are run, which takes about an hour and a half. A row has the
 seconds that it took and the load of the machine before and after it; its figures follow. On a busy machine the figures mean little: only
 the ratios of one run can be compared with those of another. --list prints the purpose of each benchmark.
 
@@ -14,6 +14,7 @@ import os
 import subprocess
 import sys
 import time
+from pathlib import Path
 
 HERE = os.path.dirname(os.path.abspath(__file__))
 
@@ -21,7 +22,7 @@ HERE = os.path.dirname(os.path.abspath(__file__))
 OTHERS = ("all", "harness", "ipp_client", "many_spools", "measures", "plots")
 
 # After this many seconds a benchmark is killed.
-SECONDS = 3_600
+SECONDS = 7_200
 
 
 def names():
@@ -30,8 +31,7 @@ def names():
 
 
 def purpose(name):
-    with open(os.path.join(HERE, f"{name}.py"), encoding="utf-8") as script:
-        return ast.get_docstring(ast.parse(script.read())).partition("\n")[0]
+    return ast.get_docstring(ast.parse(Path(HERE, f"{name}.py").read_text(encoding="utf-8"))).partition("\n")[0]
 
 
 def load():

@@ -12,26 +12,18 @@ only the ratios are of interest. No test checks them. The largest spool takes se
 """
 import time
 
-from harness.checks import same
 from harness.programs import SERVICE
-from harness.service import Client, Folder, work_of
+from harness.service import Client, Folder
 from harness.written_spools import stopped_rows
-from measures import given_program, service
+from measures import given_program, grown, service
 
 COUNTS = (10, 1_000, 100_000, 1_000_000)
 TURNS = 10
 
 
-def submit(folder, client):
-    """A job in a stopped queue of its own."""
-    folder.queue(client, "alone")
-    same("disable", client.ask("disable alone\n"), "ok")
-    return client.submit("alone")
-
-
 def hold_once(client, watcher, job):
     """Holds the job until the next second, and waits until the watching client is sent that the hold is over."""
-    same("hold", client.ask(f"hold {job} {int(time.time()) + 1}\n"), "ok")
+    client.does(f"hold {job} {int(time.time()) + 1}")
     while True:
         words = watcher.reply().split()
         if words[:2] == ["job", str(job)] and words[3] == "3":
@@ -42,22 +34,18 @@ def measured(count):
     """The milliseconds of processor time of a turn."""
     with service("--keep", "1000000", payloads=stopped_rows(count + 2)) as folder:
         client, watcher = Client(folder), Client(folder)
-        job = submit(folder, client)
-        same("watch", watcher.ask("watch\n"), "ok")
+        folder.queue(client, "alone")
+        client.does("disable alone")
+        job = client.submit("alone")
+        watcher.does("watch")
         hold_once(client, watcher, job)
-        before = work_of(folder.running.pid)
-        for _ in range(TURNS):
-            hold_once(client, watcher, job)
-        return (work_of(folder.running.pid) - before) / 1e6 / TURNS
+        return folder.work_for(lambda: hold_once(client, watcher, job), TURNS)
 
 
 def main():
     Folder.service = given_program(1, SERVICE)
-    first = None
-    for count in COUNTS:
-        took = measured(count)
-        first = first or took
-        print(f"{count:9,} waiting jobs: {took:8.2f} ms a turn, ratio {took / first:5.2f}", flush=True)
+    for count, took, ratio in grown(measured, COUNTS):
+        print(f"{count:9,} waiting jobs: {took:8.2f} ms a turn, ratio {ratio:5.2f}", flush=True)
 
 
 if __name__ == "__main__":

@@ -16,9 +16,9 @@ import os
 import resource
 import subprocess
 import sys
-import tempfile
 
-from harness.programs import BENCH, CRATES, path_of
+from harness.files import read
+from harness.programs import compiled, CRATES, path_of
 
 CRATE = os.path.join(CRATES, "ipp_codec_tests")
 PROGRAM = path_of("ipp_codec_tests")
@@ -56,8 +56,7 @@ def renamed(attribute, number):
 
 
 def answer():
-    with open(os.path.join(CRATE, "data", "printer_attributes"), "rb") as file:
-        header, groups = message(file.read())
+    header, groups = message(read(os.path.join(CRATE, "data", "printer_attributes")))
     last = groups[-1][1]
     lacking = ATTRIBUTES - sum(len(attributes) for _, attributes in groups)
     last += [renamed(attribute, number) for number, attribute in enumerate(last[:lacking])]
@@ -72,12 +71,12 @@ def seconds(program, mode, calls, octets):
     return after.ru_utime - before.ru_utime + after.ru_stime - before.ru_stime
 
 
-def compared(folder):
+def compared():
     """The program of ipp_messages.c, if libcups and its header are installed."""
-    program = os.path.join(folder, "ipp_messages")
-    words = ["cc", "-O2", "-o", program, os.path.join(BENCH, "ipp_messages.c"), "-lcups"]
-    built = subprocess.run(words, stderr=subprocess.DEVNULL, check=False)
-    return program if built.returncode == 0 else None
+    try:
+        return compiled("ipp_messages.c", "-O2", "-lcups")
+    except (OSError, subprocess.CalledProcessError):
+        return None
 
 
 def rates(runs, octets):
@@ -94,18 +93,17 @@ def main():
     program = sys.argv[1] if sys.argv[1:] else PROGRAM
     octets = answer()
     print(f"an answer of {ATTRIBUTES} attributes, {len(octets)} octets")
-    with tempfile.TemporaryDirectory() as folder:
-        other = compared(folder)
-        if other is None:
-            print("libcups and the floor are left out: cc, or the package libcups2-dev, is missing")
-        for mode, cups in (("decode", "read"), ("encode", "write")):
-            runs = {mode: (program, mode)}
-            if other:
-                runs |= {"libcups": (other, cups), "floor": (other, mode)}
-            best = rates(runs, octets)
-            for name, rate in best.items():
-                label = f"{mode}: {rate:,.0f} a second, {rate * len(octets) / 1e6:,.0f} MB a second"
-                print(label if name == mode else f"  {name}: {rate:,.0f} a second, {rate / best[mode]:.2f} times as many")
+    other = compared()
+    if other is None:
+        print("libcups and the floor are left out: gcc, or the package libcups2-dev, is missing")
+    for mode, cups in (("decode", "read"), ("encode", "write")):
+        runs = {mode: (program, mode)}
+        if other:
+            runs |= {"libcups": (other, cups), "floor": (other, mode)}
+        best = rates(runs, octets)
+        for name, rate in best.items():
+            label = f"{mode}: {rate:,.0f} a second, {rate * len(octets) / 1e6:,.0f} MB a second"
+            print(label if name == mode else f"  {name}: {rate:,.0f} a second, {rate / best[mode]:.2f} times as many")
 
 
 if __name__ == "__main__":

@@ -37,9 +37,23 @@ def given_program(place, usual=SHELL):
     return needed(sys.argv[place] if len(sys.argv) > place else usual)
 
 
-def given_room(usual="."):
-    """A new folder in the one that the first argument names, or in the usual one. It is removed at the end of a `with`."""
-    return tempfile.TemporaryDirectory(dir=os.path.abspath(sys.argv[1] if len(sys.argv) > 1 else usual))
+def run_parts(*parts, words=()):
+    """Runs these parts with these words, or those that the further arguments name, with the load of the machine before and after."""
+    named = {part.__name__: part for part in parts}
+    print(f"load of the machine: {os.getloadavg()[0]:.1f}")
+    for name in sys.argv[2:] or named:
+        print(name, flush=True)
+        named[name](*words)
+    print(f"load of the machine: {os.getloadavg()[0]:.1f}", flush=True)
+
+
+def grown(measure, places, by_step=False):
+    """Each place with its measure, and the ratio of this to that of the first place, or of the one before. Most should be near 1."""
+    before = None
+    for place in places:
+        took = measure(place)
+        yield place, took, took / (before or took)
+        before = took if by_step else before or took
 
 
 # ---- the shell
@@ -143,8 +157,8 @@ def spool_folder(folder, contents):
 # ---- floors
 
 def floor(folder, events, length):
-    """The seconds of an event of this length by the plain program of floor.c: two writes and two syncs."""
-    words = [compiled("floor.c", "-O2"), os.path.join(folder, "floor.disk"), str(events), str(length)]
+    """The seconds of an event of this length by the plain program of floors.c: two writes and two syncs."""
+    words = [compiled("floors.c", "-O2"), os.path.join(folder, "floor.disk"), str(events), str(length)]
     return float(subprocess.run(words, stdout=subprocess.PIPE, check=True).stdout) / events
 
 

@@ -5,7 +5,7 @@ It runs crates/spool_shell/out/spool_shell, crates/spool_service/out/spool_servi
 in those crates), or the programs named, in new folders under FOLDER (default: the current folder), and prints
 
 - `events`: events per second by one program, which waits for each sync of the disk, alternately with two writes and two syncs each by a
-  plain C program (floor.c);
+  plain C program (floors.c);
 - `openings`: for spools of several numbers of waiting jobs, the seconds until the program replies, the seconds of a checkpoint, and the
   memory of the program;
 - `queues`: the same with 64 queues, which share the jobs;
@@ -27,7 +27,8 @@ from harness.checks import at_once, same, timed
 from harness.programs import ADMIN, ended, SERVICE, SHELL
 from harness.service import Folder, PIECE
 from harness.written_spools import rows, spool
-from measures import CREATE, floor, needed, QUEUE, served, Shell, written
+from disk import event_seconds
+from measures import CREATE, floor, needed, QUEUE, Shell, written
 from service import ACCEPTED, CLIENTS, RunningService, share_of, submit_some
 
 QUEUES = 64
@@ -54,11 +55,8 @@ class TimedShell(Shell):
 def events(folder, shell, costs):
     found = []
     for _ in range(TURNS):
-        words = {"program": shell, "cwd": tempfile.mkdtemp(dir=folder)}
-        served(QUEUE, "--root", ".", **words)
-        opened, _ = served(b"", "--root", ".", **words)
         before = floor(folder, EVENTS, 60)
-        took = (served(EVENTS * CREATE, "--root", ".", **words)[0] - opened) / EVENTS
+        took, _ = event_seconds(shell, folder, QUEUE, EVENTS * CREATE, EVENTS)
         after = floor(folder, EVENTS, 60)
         found.append((took, (before + after) / 2))
     took, least = (statistics.median(column) for column in zip(*found))

@@ -16,7 +16,7 @@ It runs crates/spool_service/out/spool_service (built by `rt run` in that crate)
   its job data up to 30 s after the reply. Neither directive makes CUPS sync a document. With the program `lp` a job is a process of its
   own, with two requests;
 - `printed`: jobs per second that one queue and eight queues print with a backend that does nothing, in TIMES runs. Before and after each
-  run a C program does the same number of launches and syncs (the floor `whole` of launches.c); the target of the median ratio is 0.9. Ended
+  run a C program does the same number of launches and syncs (the floor `whole` of floors.c); the target of the median ratio is 0.9. Ended
   jobs are kept, so the runs have no purges. Each run follows a pause, because ext4 creates new files more slowly if many were removed in
   the seconds before;
 - `work`: processor time in ten seconds of the service, idle and with eight children that sleep;
@@ -29,7 +29,6 @@ five minutes. With PART only these parts are run.
 import functools
 import os
 import statistics
-import sys
 import tempfile
 import time
 
@@ -39,7 +38,7 @@ from harness.cups import Cups
 from harness.programs import SERVICE
 from harness.service import Client, Folder, PIECE
 from ipp_client import Connection
-from measures import given_program
+from measures import given_program, run_parts
 
 CLIENTS = (1, 4, 16, 63)
 QUEUES = (1, 8)
@@ -271,16 +270,6 @@ def memory():
 def main():
     Folder.service = given_program(1, SERVICE)
     run_parts(replies, accepted, printed, work, memory)
-
-
-def run_parts(*parts):
-    """Runs these parts, or those that the arguments name, with the load of the machine before and after."""
-    named = {part.__name__: part for part in parts}
-    print(f"load of the machine: {os.getloadavg()[0]:.1f}")
-    for name in sys.argv[2:] or named:
-        print(name, flush=True)
-        named[name]()
-    print(f"load of the machine: {os.getloadavg()[0]:.1f}", flush=True)
 
 
 if __name__ == "__main__":

@@ -25,7 +25,7 @@ from harness.child_folder import Folder as ChildFolder
 from harness.ipp import Ipp
 from harness.large_run import adopt, Place
 from harness.people import People
-from harness.service import Folder as ServiceFolder, KEEPS
+from harness.service import Folder as ServiceFolder
 
 try:
     import hypothesis
@@ -212,7 +212,6 @@ def small_disk():
 def ipp(folder):
     """The IPP front of a service with a queue `q` whose backend keeps each document."""
     skip_without("spool_ipp")
-    folder.backend("keeps", KEEPS)
     folder.open("q", scheme="keeps")
     folder.write("printers", "pages-per-minute 20\nmake-and-model Generic Printer\nresolutions 600\noutput-bins face-down\n")
     with Ipp(folder, "--default", "q", "--printers", folder.at("printers")) as front:
@@ -247,7 +246,7 @@ def place(request):
     yield made
     adopt(False)
     print(f"peak memory: {made.memory:,} KiB")
-    kept_if_failed(request, made.folder)
+    kept_if_failed(request, made.path)
 
 
 @pytest.fixture

@@ -10,79 +10,54 @@ It takes seconds and proves nothing. The last line is `none`, with status 0. Oth
 """
 import re
 import sys
-from collections import Counter
 
 from harness.sources import CRATES, crates, HERE, judged
 
-# The wrong bodies that the promises name. Two more are refused by tests: a call that always runs out of memory, and a start that waits for
-# its child's end.
+# The wrong bodies that the promises name, of each crate. Two more are refused by tests: a call that always runs out of memory, and a start
+# that waits for its child's end.
 PROMISED = {
-    "always-appends-reopen",
-    "answers-a-lost-command",
-    "answers-another-command",
-    "answers-what-was-not-asked",
-    "bytes-left-over",
-    "changes-an-exit",
-    "cheapest-first-step",
-    "checkpoint-does-nothing",
-    "closes-current-first",
-    "create-in-the-reserve",
-    "document-to-every-stage",
-    "does-a-denied-command",
-    "drive-appends-nothing",
-    "drops-cut-line",
-    "empty-listing-after-full",
-    "finish-before-next-start",
-    "follows-a-link",
-    "forgets-other-children",
-    "full-counts-less",
-    "gate-with-payload",
-    "header-in-one-write",
-    "holds-a-whole-document",
-    "ignores-requested-attributes",
-    "keeps-after-full",
-    "keeps-control-characters",
-    "keeps-no-disk",
-    "later-gate-stays-closed",
-    "next-stage-after-cancel",
-    "offers-an-absent-operation",
-    "ok-before-apply",
-    "ok-before-second-sync",
-    "open-without-sync",
-    "opens-before-the-sync",
-    "opens-empty",
-    "owner-from-the-claim",
-    "purges-beside-its-child",
-    "reopens-as-pending",
-    "retry-current-as-retry",
-    "round-starts-nothing",
-    "says-every-child-ended",
-    "sends-a-piece-twice",
-    "settle-opens-the-last-gate",
-    "shows-titles-to-others",
-    "stops-all-queues",
-    "swaps-words",
-    "takes-away-and-puts-back",
-    "time-stands-still",
-    "waits-for-a-purged-job-forever",
+    "backend_codes": "reopens-as-pending retry-current-as-retry",
+    "clean_texts": "keeps-control-characters",
+    "client_roles": "does-a-denied-command owner-from-the-claim",
+    "client_standing": "shows-titles-to-others",
+    "ended_jobs": "purges-beside-its-child waits-for-a-purged-job-forever",
+    "field_codec": "bytes-left-over",
+    "gate_journal": (
+        "full-counts-less gate-with-payload keeps-no-disk later-gate-stays-closed ok-before-second-sync "
+        "opens-before-the-sync settle-opens-the-last-gate"
+    ),
+    "ipp_connections": "holds-a-whole-document",
+    "ipp_names": "offers-an-absent-operation",
+    "line_pieces": "drops-cut-line",
+    "print_rounds": (
+        "document-to-every-stage finish-before-next-start forgets-other-children next-stage-after-cancel "
+        "round-starts-nothing"
+    ),
+    "requested_attributes": "answers-what-was-not-asked ignores-requested-attributes",
+    "service_client": "answers-a-lost-command answers-another-command sends-a-piece-twice",
+    "service_rules": "create-in-the-reserve time-stands-still",
+    "spool_areas": (
+        "always-appends-reopen closes-current-first header-in-one-write open-without-sync opens-empty "
+        "takes-away-and-puts-back"
+    ),
+    "spool_core": "checkpoint-does-nothing drive-appends-nothing keeps-after-full stops-all-queues",
+    "spool_engine": "empty-listing-after-full ok-before-apply",
+    "user_proofs": "follows-a-link",
+    "walk_costs": "cheapest-first-step",
+    "watched_children": "changes-an-exit says-every-child-ended swaps-words",
 }
 
 # The promises name these too.
 DEAR = {
-    "answers-before-the-close",
-    "ends-two-collections",
-    "forgets-a-running-child",
-    "leaves-out-a-hold",
-    "ok-to-an-absent-operation",
-    "reads-a-signed-length",
-    "removes-unended-jobs",
-    "replies-before-the-settle",
-    "shows-a-hidden-title",
-    "starts-beside-a-running-child",
-    "starts-beyond-the-places",
-    "takes-the-document",
-    "tick-ignores-the-look",
-    "value-ends-an-option",
+    "ipp_answers": "shows-a-hidden-title",
+    "ipp_codec": "ends-two-collections reads-a-signed-length takes-the-document",
+    "ipp_options": "leaves-out-a-hold value-ends-an-option",
+    "ipp_requests": "ok-to-an-absent-operation",
+    "ipp_tasks": "answers-before-the-close",
+    "print_rounds": "starts-beside-a-running-child starts-beyond-the-places tick-ignores-the-look",
+    "queue_edits": "removes-unended-jobs",
+    "service_loop": "replies-before-the-settle",
+    "spool_engine": "forgets-a-running-child",
 }
 
 IN_GATE, ON_DEMAND = "must-fail", "more-edits"
@@ -141,26 +116,27 @@ def edits_in(crate, folder):
     return sorted((crate / folder).iterdir()) if (crate / folder).is_dir() else []
 
 
+def edit_faults(crate, folder):
+    """The edits of a crate in a folder that do not apply."""
+    for edit in edits_in(crate, folder):
+        is_edit = edit.is_file() and NAME.fullmatch(edit.name)
+        fault = fault_of(edit, crate) if is_edit else "its name is not that of an edit"
+        if fault:
+            yield f"{edit.relative_to(HERE)}: {fault}"
+
+
 def faults():
     """The errors, a line each."""
-    places, dear = Counter(), Counter()
+    for table in (PROMISED, DEAR):
+        yield from (f"{crate}: in a table of this script, and no crate" for crate in sorted(set(table) - set(crates())))
+    dear = set(" ".join(DEAR.values()).split())
     for crate in (CRATES / name for name in crates()):
-        for folder in (IN_GATE, ON_DEMAND):
-            for edit in edits_in(crate, folder):
-                is_edit = edit.is_file() and NAME.fullmatch(edit.name)
-                fault = fault_of(edit, crate) if is_edit else "its name is not that of an edit"
-                if fault:
-                    yield f"{edit.relative_to(HERE)}: {fault}"
-        names = {it.stem for it in edits_in(crate, IN_GATE)}
-        places.update(names & PROMISED)
-        dear.update({it.stem for it in edits_in(crate, ON_DEMAND)} & DEAR)
-        others = sorted(names - PROMISED)
-        if others:
-            yield f"crates/{crate.name}/{IN_GATE}: PROMISED does not name {' '.join(others)}: move these to {ON_DEMAND}"
-    for folder, named, counts in ((IN_GATE, PROMISED, places), (ON_DEMAND, DEAR, dear)):
-        for name in sorted(named):
-            if counts[name] != 1:
-                yield f"{name}: it is in {folder} of {counts[name]} crates, and must be in one"
+        for folder, table in ((IN_GATE, PROMISED), (ON_DEMAND, DEAR)):
+            yield from edit_faults(crate, folder)
+            named, names = set(table.get(crate.name, "").split()), {it.stem for it in edits_in(crate, folder)}
+            yield from (f"crates/{crate.name}/{folder}: {name} is missing" for name in sorted(named - names))
+            others = names - named if folder == IN_GATE else names & dear - named
+            yield from (f"crates/{crate.name}/{folder}: no table names {name}, or for another crate" for name in sorted(others))
 
 
 if __name__ == "__main__":

@@ -8,8 +8,7 @@ and takes a few seconds. Code, identifiers and console blocks count neither as w
     english.py --worst N           the same with the N worst lines
     english.py --files             the same, and the words and hits of each file
     english.py --files PATH..      each hit in these files or folders: file, line, idiom and text
-    english.py --limits            the table of limits that the tree meets now, to be pasted here
-    english.py --manuals [FOLDER..]  the rates in the manual pages below these folders, /usr/share/man unless given, to be pasted here
+    english.py --manuals [FOLDER..]  the rates in the manual pages below these folders, /usr/share/man unless given, for IDIOMS
 
 The last line is `none`, with status 0, or the number of limits that are exceeded, with status 1.
 """
@@ -25,7 +24,7 @@ from pathlib import Path
 
 from harness.sources import crates, files_of, HERE, shown
 
-# The groups of texts, each with limits of its own, in the order of the columns of LIMITS.
+# The groups of texts, in the order of the columns of the table.
 GROUPS = {
     "documents": "README.md, CONTRIBUTING.md, CHANGES.md and the Markdown files of docs/ and examples/, without docs/reference/",
     "manuals": "docs/man/, without macros",
@@ -36,81 +35,50 @@ GROUPS = {
     "scripts": "docstrings and comments of tests/*.py and bench/*.py",
 }
 
-# Each idiom as a regular expression on lower-case text. A space matches a space or the end of a line.
+# Each idiom: its hits per 1,000 words of Debian's manual pages, and a regular expression on lower-case text, in which a space matches a
+# space or the end of a line. A group may have three times that rate, with the number of its hits rounded up.
+#
+# `english.py --manuals` printed the rates on November 28, 2026, for Debian 12.11 with the packages apt, bash, cups-client, cups-daemon,
+# cups-bsd, curl, dpkg, findutils, git-man, grep, make, openssh-client, openssh-server, rsync, sed, systemd and tar: 518,801 words of 188
+# pages, which are 152 of git, bash.1, curl.1, dpkg.1, find.1, grep.1, journalctl.1, lp.1, lpr.1, lpstat.1, make.1, rsync.1, scp.1, sed.1,
+# sftp.1, ssh-add.1, ssh-agent.1, ssh-keygen.1, ssh.1, systemctl.1, tar.1, xargs.1, authorized_keys.5, cupsd.conf.5, mime.types.5,
+# rsyncd.conf.5, ssh_config.5, sshd_config.5, systemd.exec.5, systemd.service.5, systemd.socket.5, systemd.unit.5, backend.7, apt-get.8,
+# cupsd.8, lpadmin.8 and sshd.8.
 IDIOMS = {
-    "tell": r"\b(?:tell|tells|telling|told)\b",
-    "what is": r"\bwhat (?:is|are|was|were|it|they|an?|the|no|each|this|that|has|came|comes|becomes|stands)\b(?![^.!?;:]*\?)",
-    "where for if": r"(?:[.;:,] |\n\n)where\b|\bwhere (?:it|they|no|none|nothing|nobody|there|any|neither|one)\b"
-                    r"|\bwhere (?:an?|the|its|that|this) [^.,;:]{0,40}?(?:n't|cannot|\bnot|has no|have no|fails)\b",
-    "behind": r"\bbehind\b",
-    "beside": r"\bbeside\b",
-    "want of": r"\b(?:finds?|found|finding) no (?:memory|room)\b|\bwant of\b|\bwants\b",
-    "stand": r"\b(?:stands?|stood|standing)\b",
-    "go": r"\b(?:go|goes|went)\b",
-    "whoever": r"\bwhoever\b|\bwhose [^.;:]{0,40}\bit is\b",
-    "anew": r"\banew\b",
-    "is there": r"\b(?:(?:is|are|was|were)n't|(?:is|are|was|were) not) there\b|\b(?:is|are|was|were) there\b(?! (?:an?|any|no|is|are)\b)",
-    "as many": r"\b(?:as|so) many\b",
-    "make of": r"\b(?:makes?|made|making|becomes?|became|comes?|came) of\b",
-    "one after": r"\bone after (?:the other|another)\b|\bone by one\b",
-    "come to": r"\b(?:comes?|came|coming) to\b",
-    "lead to": r"\b(?:leads?|led|leading) to\b",
-    "in hand": r"\bin hand\b",
-    "but for": r"\bbut for\b|, save\b",
-    "let go": r"\b(?:lets?|letting) (?:\w+ )?go\b|\b(?:gives?|gave|given|giving) (?:\w+ )?back\b",
-    "of which": r"\b(?:of|by|in|to|from|with|at|on|for|after|before) (?:which|whom)\b",
-    "has to be": r"\b(?:has|have|had|is|are|was|were) to be\b",
-    "none but": r"\bnone but\b|\bno (?:more|fewer|less) than\b",
-    "said to be": r"\b(?:is|are|was|were|be|been) said\b|\bsaid (?:of|to be)\b",
-    "look at": r"\b(?:looks?|looked|looking) at\b|\ba look\b",
-    "the one that": r"\bthe ones? (?:that|which|whose)\b|\b(?:of|than|as|are|is|and|only) those (?:that|which|whose)\b",
-    "old names": r"\b(?:newcomers?|deeds?|the house|keeps? house|brimful|stirred)\b",
-    "contractions": r"\b\w+n't\b|\b(?:it|that|there|here|what|who|let)'s\b|\b\w+'(?:re|ll|ve)\b",
+    "tell": (0.532, r"\b(?:tell|tells|telling|told)\b"),
+    "what is": (0.283, r"\bwhat (?:is|are|was|were|it|they|an?|the|no|each|this|that|has|came|comes|becomes|stands)\b(?![^.!?;:]*\?)"),
+    "where for if": (0.258, r"(?:[.;:,] |\n\n)where\b|\bwhere (?:it|they|no|none|nothing|nobody|there|any|neither|one)\b"
+                    r"|\bwhere (?:an?|the|its|that|this) [^.,;:]{0,40}?(?:n't|cannot|\bnot|has no|have no|fails)\b"),
+    "behind": (0.035, r"\bbehind\b"),
+    "beside": (0.002, r"\bbeside\b"),
+    "want of": (0.131, r"\b(?:finds?|found|finding) no (?:memory|room)\b|\bwant of\b|\bwants\b"),
+    "stand": (0.015, r"\b(?:stands?|stood|standing)\b"),
+    "go": (0.137, r"\b(?:go|goes|went)\b"),
+    "whoever": (0.000, r"\bwhoever\b|\bwhose [^.;:]{0,40}\bit is\b"),
+    "anew": (0.000, r"\banew\b"),
+    "is there": (0.002, r"\b(?:(?:is|are|was|were)n't|(?:is|are|was|were) not) there\b|\b(?:is|are|was|were) there\b(?! (?:an?|any|no|is|are)\b)"),
+    "as many": (0.048, r"\b(?:as|so) many\b"),
+    "make of": (0.000, r"\b(?:makes?|made|making|becomes?|became|comes?|came) of\b"),
+    "one after": (0.015, r"\bone after (?:the other|another)\b|\bone by one\b"),
+    "come to": (0.027, r"\b(?:comes?|came|coming) to\b"),
+    "lead to": (0.046, r"\b(?:leads?|led|leading) to\b"),
+    "in hand": (0.000, r"\bin hand\b"),
+    "but for": (0.027, r"\bbut for\b|, save\b"),
+    "let go": (0.002, r"\b(?:lets?|letting) (?:\w+ )?go\b|\b(?:gives?|gave|given|giving) (?:\w+ )?back\b"),
+    "of which": (0.715, r"\b(?:of|by|in|to|from|with|at|on|for|after|before) (?:which|whom)\b"),
+    "has to be": (0.133, r"\b(?:has|have|had|is|are|was|were) to be\b"),
+    "none but": (0.008, r"\bnone but\b|\bno (?:more|fewer|less) than\b"),
+    "said to be": (0.006, r"\b(?:is|are|was|were|be|been) said\b|\bsaid (?:of|to be)\b"),
+    "look at": (0.102, r"\b(?:looks?|looked|looking) at\b|\ba look\b"),
+    "the one that": (0.033, r"\bthe ones? (?:that|which|whose)\b|\b(?:of|than|as|are|is|and|only) those (?:that|which|whose)\b"),
+    "old names": (0.000, r"\b(?:newcomers?|deeds?|the house|keeps? house|brimful|stirred)\b"),
+    "contractions": (1.282, r"\b\w+n't\b|\b(?:it|that|there|here|what|who|let)'s\b|\b\w+'(?:re|ll|ve)\b"),
 }
 # Contractions are counted in reference texts only.
 REFERENCE = ("documents", "manuals", "messages", "roots")
 
-# Hits per 1,000 words of Debian's manual pages, as `english.py --manuals` printed them on November 28, 2026, for Debian 12.11 with the
-# packages apt, bash, cups-client, cups-daemon, cups-bsd, curl, dpkg, findutils, git-man, grep, make, openssh-client, openssh-server,
-# rsync, sed, systemd and tar: 518,801 words of 188 pages, which are 152 of git, bash.1, curl.1, dpkg.1, find.1, grep.1, journalctl.1,
-# lp.1, lpr.1, lpstat.1, make.1, rsync.1, scp.1, sed.1, sftp.1, ssh-add.1, ssh-agent.1, ssh-keygen.1, ssh.1, systemctl.1, tar.1,
-# xargs.1, authorized_keys.5, cupsd.conf.5, mime.types.5, rsyncd.conf.5, ssh_config.5, sshd_config.5, systemd.exec.5,
-# systemd.service.5, systemd.socket.5, systemd.unit.5, backend.7, apt-get.8, cupsd.8, lpadmin.8 and sshd.8.
-DEBIAN = {
-    "tell": 0.532,
-    "what is": 0.283,
-    "where for if": 0.258,
-    "behind": 0.035,
-    "beside": 0.002,
-    "want of": 0.131,
-    "stand": 0.015,
-    "go": 0.137,
-    "whoever": 0.000,
-    "anew": 0.000,
-    "is there": 0.002,
-    "as many": 0.048,
-    "make of": 0.000,
-    "one after": 0.015,
-    "come to": 0.027,
-    "lead to": 0.046,
-    "in hand": 0.000,
-    "but for": 0.027,
-    "let go": 0.002,
-    "of which": 0.715,
-    "has to be": 0.133,
-    "none but": 0.008,
-    "said to be": 0.006,
-    "look at": 0.102,
-    "the one that": 0.033,
-    "old names": 0.000,
-    "contractions": 1.282,
-}
-
-# The limits per 1,000 words: three times the rate of Debian's manual pages, or the rate of this tree if that is larger. A group may
-# have the number of hits that its limit allows, rounded up. An idiom without a row here has three times Debian's rate as its limit.
-LIMITS = {}
-
-PATTERNS = {idiom: re.compile(text.replace(" ", r"[ \n]")) for idiom, text in IDIOMS.items()}
+PATTERNS = {idiom: re.compile(text.replace(" ", r"[ \n]")) for idiom, (_, text) in IDIOMS.items()}
+LIMITS = {idiom: 3 * rate for idiom, (rate, _) in IDIOMS.items()}
 WORD = re.compile(r"[a-z]+(?:['-][a-z]+)*")
 CODE = "·"
 # Text that does not count as words: code in backticks, the address of a link, a name with an underscore, colons, a slash or an inner
@@ -289,15 +257,10 @@ class Counts:
         return 1000 * self.hits[idiom][group] / max(1, self.words[group])
 
     def allowed(self, idiom, group):
-        return math.ceil(limit(idiom, group) * self.words[group] / 1000)
+        return math.ceil(LIMITS[idiom] * self.words[group] / 1000)
 
     def is_over(self, idiom, group):
         return self.hits[idiom][group] > self.allowed(idiom, group)
-
-
-def limit(idiom, group):
-    row = LIMITS.get(idiom)
-    return row[list(GROUPS).index(group)] if row else 3 * DEBIAN.get(idiom, 0)
 
 
 def print_lines(lines):
@@ -316,29 +279,12 @@ def print_table(counts):
         cells = []
         for group in GROUPS:
             mark = "!" if counts.is_over(idiom, group) else " "
-            cells.append(f"{counts.hits[idiom][group]:>6}{counts.rate(idiom, group):>6.2f}/{limit(idiom, group):<5.2f}{mark}")
-        print(f"{idiom:13}{DEBIAN.get(idiom, 0):>7.2f}" + "".join(f"{it:>19}" for it in cells))
+            cells.append(f"{counts.hits[idiom][group]:>6}{counts.rate(idiom, group):>6.2f}/{LIMITS[idiom]:<5.2f}{mark}")
+        print(f"{idiom:13}{IDIOMS[idiom][0]:>7.2f}" + "".join(f"{it:>19}" for it in cells))
     cells = []
     for group in GROUPS:
         cells.append(f"{sum(it[group] for it in counts.hits.values()):>6}{sum(counts.rate(it, group) for it in IDIOMS):>6.2f}")
-    print(f"{'all':13}{sum(DEBIAN.values()):>7.2f}" + "".join(f"{it:>12}{'':7}" for it in cells))
-
-
-def rounded_up(rate):
-    return math.ceil(rate * 100) / 100
-
-
-def print_limits(counts):
-    """The limits that the tree meets, as a table of this script."""
-    print("LIMITS = {\n    # " + ", ".join(GROUPS))
-    for idiom in IDIOMS:
-        of_debian = round(3 * DEBIAN.get(idiom, 0), 2)
-        row = []
-        for group in GROUPS:
-            fits = counts.hits[idiom][group] <= math.ceil(of_debian * counts.words[group] / 1000)
-            row.append(of_debian if fits else rounded_up(counts.rate(idiom, group)))
-        print(f'    "{idiom}": ({", ".join(f"{it:g}" for it in row)}),')
-    print("}")
+    print(f"{'all':13}{sum(rate for rate, _ in IDIOMS.values()):>7.2f}" + "".join(f"{it:>12}{'':7}" for it in cells))
 
 
 # The manual pages that are measured.
@@ -367,10 +313,8 @@ def print_manuals(folders):
                 hits[idiom] += 1
     others = [it.removesuffix(".gz") for it in pages if not it.startswith("git")]
     print(f"# {words} words of {len(pages)} pages: {len(pages) - len(others)} of git, {', '.join(others)}")
-    print("DEBIAN = {")
     for idiom, count in hits.items():
-        print(f'    "{idiom}": {1000 * count / max(1, words):.3f},')
-    print("}")
+        print(f"{idiom}: {1000 * count / max(1, words):.3f}")
 
 
 def files_below(names):
@@ -386,9 +330,6 @@ def main():
         print_manuals(others or ["/usr/share/man"])
         return 0
     counts = Counts(files_below(others) if word == "--files" and others else tree_files())
-    if word == "--limits":
-        print_limits(counts)
-        return 0
     if word == "--files" and others:
         print_lines(sorted(counts.lines.items()))
         hits, words = sum(it[1] for it in counts.files.values()), sum(counts.words.values())

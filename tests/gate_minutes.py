@@ -19,6 +19,7 @@ import tempfile
 import threading
 import time
 from itertools import zip_longest
+from pathlib import Path
 
 from harness.programs import ended
 from harness.sources import CRATES, HERE, uses
@@ -29,15 +30,13 @@ PARTS = ("proof", "tests", "edits")
 
 def used(process):
     """The processor seconds of a process, and when it was started."""
-    with open(f"/proc/{process}/stat", encoding="utf-8") as file:
-        fields = file.read().rpartition(")")[2].split()
+    fields = Path(f"/proc/{process}/stat").read_text(encoding="utf-8").rpartition(")")[2].split()
     return (int(fields[11]) + int(fields[12])) / TICKS, fields[19]
 
 
 def work_of(process):
     """The crate and the part of the gate that a prover works on, or None if it is no prover."""
-    with open(f"/proc/{process}/cmdline", encoding="utf-8", errors="replace") as file:
-        words = file.read().split("\0")
+    words = Path(f"/proc/{process}/cmdline").read_text(encoding="utf-8", errors="replace").split("\0")
     if not words[0].endswith("/rattle") or "--crate-name" not in words:
         return None
     crate = words[words.index("--crate-name") + 1]
@@ -111,8 +110,7 @@ def gate(folder, polls):
         status, usage = ended(words_of_gate(), cwd=os.path.join(folder, "clone"), stdout=file, stderr=file)
     done.set()
     polling.join()
-    with open(log, encoding="utf-8", errors="replace") as file:
-        return status, file.read(), usage.ru_utime + usage.ru_stime
+    return status, Path(log).read_text(encoding="utf-8", errors="replace"), usage.ru_utime + usage.ru_stime
 
 
 def write(minutes):

@@ -28,12 +28,11 @@ from pathlib import Path
 
 from edits_apply import fault_of, pairs_of
 from harness.programs import ended
-from harness.sources import CRATES, HERE, uses
+from harness.sources import CRATES, functions_in, HERE, uses
 
 REFUSED, WEAKLY, MISSED, BAD = "refused", "name/limit", "not refused", "bad"
 COLUMNS = (REFUSED, WEAKLY, MISSED, BAD)
 
-FUNCTION = re.compile(r"( *)(?:pub(?:\([a-z]+\))? )?(?:const )?(?:unsafe )?fn (\w+)")
 CYCLE = re.compile(r" *#\[cycle\((\w+)\)\]")
 OWNER = re.compile(r" *impl(?:<.*?>)? (\w+)")
 # The output of a check: a goal that is not proved, and after the goals of a function the function itself; and a goal that its answer does
@@ -155,18 +154,11 @@ def owner_of(lines, first, indent):
 
 
 def functions_of(path, lines):
-    """The functions of a file, as rt fmt formats them: code outside a function is indented no deeper than its first line."""
-    found = []
-    for first, line in enumerate(lines):
-        head = FUNCTION.match(line)
-        if head:
-            indent = head[1]
-            outer = (i for i in range(first, len(lines)) if re.match(rf"{indent}\S", lines[i]))
-            opens = next((i for i in outer if lines[i].endswith(("{", ";", "}"))), first)
-            last = next(outer, opens) if lines[opens].endswith("{") else opens
-            owner, cycle = owner_of(lines, first, indent), cycle_of(lines, first)
-            found.append(Function(path, owner, head[2], cycle, first + 1, opens + 1, last + 1))
-    return found
+    """The functions of a file."""
+    return [
+        Function(path, owner_of(lines, it.first - 1, it.indent), it.name, cycle_of(lines, it.first - 1), it.first, it.opens, it.last)
+        for it in functions_in(lines)
+    ]
 
 
 def read_edit(path, folder):

@@ -16,7 +16,7 @@ import re
 import sys
 from collections import Counter
 
-from harness.sources import crates, files_of, judged, shown
+from harness.sources import crates, files_of, functions_in, judged, shown
 
 # The crates that only tests use, in addition to those whose names end in _tests.
 OF_TESTS = {"disk_images", "spool_scripts"}
@@ -208,17 +208,15 @@ GREAT = re.compile(r"\b[ui](?:8|16|32|64|128|size)::(?:MAX|MIN)\b|<<|\bpow\(|\bs
 TEXT = re.compile(r"'(?:[^'\\]|\\.)'|\"(?:[^\"\\]|\\.)*\"")
 
 CONSTANT = re.compile(r"^\s*(?:pub(?:\([a-z]+\))? )?(?:const|static) (\w+): [^=]*=(.*)$")
-FUNCTION = re.compile(r"^\s*(?:pub(?:\([a-z]+\))? )?(?:const )?(?:unsafe )?fn (\w+)")
-CLAUSE = re.compile(r"^\s*(?:requires|ensures|ghost)\b")
 TESTS = re.compile(r"(^|_)tests\.rt$")
 
 
 class Function:
     """The body of a function: its first line, and its lines of code with the number of the first."""
 
-    def __init__(self, crate, path, name, head, first):
-        self.crate, self.path, self.name, self.head = LIBRARIES.get(crate, crate), path, name, head
-        self.first, self.lines = first, []
+    def __init__(self, crate, path, lines, found):
+        self.crate, self.path, self.name, self.head = LIBRARIES.get(crate, crate), path, found.name, lines[found.first - 1]
+        self.first, self.lines = found.opens + 1, lines[found.opens : found.last - 1]
 
     def key(self):
         return self.crate, self.name
@@ -239,20 +237,7 @@ def sources():
 
 def bodies(crate, path, lines):
     """The functions of a file that have a body of more than a line."""
-    name, head, depth, body = "", "", 0, None
-    for number, line in enumerate(lines, 1):
-        indent = len(line) - len(line.lstrip())
-        begins = FUNCTION.match(line)
-        if body is not None:
-            if line.strip() == "}" and indent == depth:
-                yield body
-                name, body = "", None
-            else:
-                body.lines.append(line)
-        elif begins:
-            name, head, depth = begins[1], line, indent
-        if body is None and name and indent == depth and line.rstrip().endswith("{") and not CLAUSE.match(line):
-            body = Function(crate, path, name, head, number + 1)
+    return [Function(crate, path, lines, it) for it in functions_in(lines) if it.opens < it.last]
 
 
 def passes_on(code):

@@ -200,13 +200,9 @@ def trial(room):
 
 
 @pytest.mark.strace
-def test_it_is_killed_at_each_call(trial):
-    trial.is_killed_at_each_call()
-
-
-@pytest.mark.strace
-def test_each_call_fails_once(trial):
-    trial.fails_at_each_call()
+@pytest.mark.parametrize("at_each_call", [Trial.is_killed, Trial.fails], ids=["killed", "fails"])
+def test_each_call(trial, at_each_call):
+    at_each_call(trial)
 
 
 @pytest.mark.strace

@@ -31,9 +31,10 @@ import pytest
 
 from harness import stored_scripts as scripts
 from harness import programs
+from harness.allocations import variables_for
 from harness.checks import LONGEST, same
 from harness.files import read, write
-from harness.programs import compiled, SHELL, TESTS
+from harness.programs import SHELL, TESTS
 
 pytestmark = pytest.mark.needs("gcc")
 
@@ -88,7 +89,6 @@ class Counting:
     def __init__(self, room):
         self.room = room
         self.names = itertools.count()
-        self.library = compiled("count_allocations.c", "-shared", "-fPIC")
 
     def fresh(self):
         """The path of a file or folder that does not exist yet."""
@@ -98,9 +98,7 @@ class Counting:
         """The result of a program, with one allocation refused unless that number is 0. Its input is a file, which it reads in pieces of
         the same lengths each time.
         """
-        environment = {"PATH": "/bin", "LANG": "C", "LD_PRELOAD": self.library, "REFUSED": str(refused)}
-        if log:
-            environment["COUNTED"] = log
+        environment = {"PATH": "/bin", "LANG": "C", **variables_for(log or "/dev/null", refused)}
         with tempfile.TemporaryFile(dir=self.room) as given:
             given.write(text)
             given.seek(0)

@@ -124,8 +124,7 @@ def real_spools(folder):
         spools.append(read(os.path.join(root, "spool.disk")))
     kinds = {payload[0] for spool in spools for half in journal.halves(spool) for payload in journal.payloads_of(half)}
     missing = {*range(1, 0x12), *range(0x40, 0x44)} - kinds
-    if missing:
-        raise Difference(f"the created spools have no event or row of the kinds {sorted(missing)}")
+    holds(f"the created spools have no event or row of the kinds {sorted(missing)}", not missing)
     return spools
 
 
@@ -138,7 +137,7 @@ def as_version_one_has_it(payload):
     if payload[:1] == b"\x11":
         return b"\x05" + payload[1:-8]
     if payload[:1] == b"\x42":
-        return replace(journal.read_row(payload), by=None).payload(version=1)
+        return replace(model.read_row(payload), by=None).payload(version=1)
     return payload
 
 
@@ -377,8 +376,8 @@ def changed_moment(payload, is_old, chance):
     """Gives the row of a job another deadline, or none, or no field for one. A payload that is no row is unchanged."""
     for version in journal.VERSIONS:
         try:
-            row = journal.read_row(payload, version)
-        except (AssertionError, KeyError, IndexError, UnicodeDecodeError):
+            row = model.read_row(payload, version)
+        except model.Unfit:
             continue
         by = chance.choice([None, row.by, 0, 900, 1_000, 2_500, model.GREATEST_MOMENT, model.GREATEST_MOMENT + 1])
         return replace(row, by=None).payload(version=1) if is_old else replace(row, by=by).payload()
@@ -433,10 +432,8 @@ def check(root, file):
     lines, errors, status, left, version = wanted_of(file)
     done = serve(root, "".join(f"{command}\n" for command in COMMANDS))
     got = done.stdout.decode().splitlines(), real_children.faults_in(done.stderr.decode()), done.returncode
-    if got != (lines, errors, status):
-        raise Difference(f"{got} in place of {(lines, errors, status)}")
-    if read(path) != left:
-        raise Difference(f"the resulting file differs from the model's, after {lines}")
+    holds(f"{got} in place of {(lines, errors, status)}", got == (lines, errors, status))
+    holds(f"the resulting file differs from the model's, after {lines}", read(path) == left)
     return version
 
 

@@ -14,7 +14,7 @@ import pytest
 
 from harness.checks import LONGEST, quoted, same, words_of_faults
 from harness.child_folder import CHANNEL, COPIES, EXIT, printed, PYTHON, queue_states, stage_event, states
-from harness.programs import SHELL
+from harness.programs import limited, SHELL
 
 pytestmark = pytest.mark.needs("spool_shell")
 
@@ -123,11 +123,7 @@ def test_no_descriptors_left(folder):
     """On a system without free descriptors a start results in NoStart, never in an exit status."""
     folder.program("backend", "exit", EXIT)
     script = b"".join(printed(f"q{n:02}", "exit:/0", number=n) for n in range(1, 21))
-
-    def limited():
-        resource.setrlimit(resource.RLIMIT_NOFILE, (24, 24))
-
-    replies = folder.run(script + b"round\njobs\n", preexec_fn=limited)
+    replies = folder.run(script + b"round\njobs\n", preexec_fn=limited(resource.RLIMIT_NOFILE, 24))
     found = states(replies)
     started = sum(state == DONE for state in found.values())
     same("some are started, and some are not", 0 < started < 20, True)

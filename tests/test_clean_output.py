@@ -12,9 +12,7 @@ characters, such as U+009B, and U+202E, which reverses the text after it. The te
 import itertools
 import json
 import re
-import socket
 import sys
-import threading
 import unicodedata
 
 import pytest
@@ -22,6 +20,7 @@ import pytest
 from harness.checks import holds, same, until
 from harness.files import read
 from harness.front import first_line, Front
+from harness.printers import Printer
 from harness.service import Client
 
 pytestmark = pytest.mark.needs("spool_service", "spool_front")
@@ -107,23 +106,17 @@ def test_prints_changes(folder):
     holds(f"the job is shown: {line!r}", line.startswith("job 1 q 4 ") and f'"{CLEAN_TITLE}"' in line and f'"{CLEAN_USER}"' in line)
 
 
-class Raw:
+def answer_raw(folder, command, reply):
     """A service that sends these bytes after the first command that it knows, and closes the connection."""
-
-    def __init__(self, folder, command, reply):
-        self.command, self.reply = command, reply
-        self.listener = socket.socket(socket.AF_UNIX)
-        self.listener.bind(folder.socket)
-        self.listener.listen(8)
-        threading.Thread(target=self.serve, daemon=True).start()
-
-    def serve(self):
-        with self.listener.accept()[0] as line, line.makefile("rb") as stream:
+    def serve(connection):
+        with connection.makefile("rb") as stream:
             for said in stream:
-                if said.decode().startswith(self.command):
-                    line.sendall(self.reply)
+                if said.decode().startswith(command):
+                    connection.sendall(reply)
                     return
-                line.sendall(b"error syntax\n")
+                connection.sendall(b"error syntax\n")
+
+    Printer(serve, path=folder.socket)
 
 
 def test_prints_any_line(folder):
@@ -134,7 +127,7 @@ def test_prints_any_line(folder):
     named = {ord(c) // 64: c for c in reversed(signs) if unicodedata.name(c, "") and not steers(c)}
     good = "".join(c for c in named.values() if ord(c) not in (0x115F, 0x1160, 0x17B4, 0x17B5, 0x3164, 0xFFA0, 0x34F))
     lines = [b"bad " + bad.encode(), b"invalid \xff\xc2\x1b[2J\xe4\xb8 end", b"good " + good.encode(), "emoji ❤️ 👩‍💻 می‌خواهم".encode()]
-    Raw(folder, "watch", b"ok\n" + b"\n".join(lines) + b"\n")
+    answer_raw(folder, "watch", b"ok\n" + b"\n".join(lines) + b"\n")
     ended = Front(folder, 1).run("spool", "watch")
     shown = ended.stdout.decode().split("\n")
     same("lines", len(shown), 5)
@@ -145,7 +138,7 @@ def test_prints_any_line(folder):
 
 
 def test_prints_errors(folder):
-    Raw(folder, "hold", "error \u009b2J\x1b[31m\u202etxt\n".encode())
+    answer_raw(folder, "hold", "error \u009b2J\x1b[31m\u202etxt\n".encode())
     text = Front(folder, 1).fails("spool", "hold", "5")
     is_clean("a refusal", text)
     same("a refusal", text, "spool: cannot hold job 5: error \ufffd2J\ufffd[31m\ufffdtxt\n")

@@ -28,13 +28,14 @@ SCRIPT = ROOT / "examples/office/copy-spool.py"
 LIVES, SECONDS = 3_000, 20
 
 
-def loaded():
+@pytest.fixture(scope="module")
+def module():
     """The script as a module."""
     spec = importlib.util.spec_from_file_location("copy_spool", SCRIPT)
-    module = importlib.util.module_from_spec(spec)
+    made = importlib.util.module_from_spec(spec)
     sys.dont_write_bytecode = True
-    spec.loader.exec_module(module)
-    return module
+    spec.loader.exec_module(made)
+    return made
 
 
 # ---- a simulated writer
@@ -262,8 +263,3 @@ def continues(place, wanted):
 @pytest.fixture
 def room(room):
     return Path(room)
-
-
-@pytest.fixture(scope="module")
-def module():
-    return loaded()

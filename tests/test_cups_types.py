@@ -10,7 +10,7 @@ import subprocess
 
 import pytest
 
-from harness.checks import check, Difference, reports_all
+from harness.checks import check, Difference, holds, reports_all
 from harness.files import read
 from harness.programs import SHELL
 
@@ -53,8 +53,7 @@ def warnings_of(program, file):
             warnings.append((int(found[1]), found[2].decode()))
         else:
             raise Difference(f"other output: {line!r}")
-    if run.returncode != 0:
-        raise Difference(f"the program ended with {run.returncode}")
+    holds(f"the program ended with {run.returncode}", run.returncode == 0)
     return warnings
 
 

@@ -141,11 +141,6 @@ class Place(real_children.ShellFolder):
 
 # ---- the required results of a failure
 
-def rows_and_version(table):
-    """A table's rows, and the version of its area."""
-    return table.version, table.listing()
-
-
 def name_of(call):
     """The name that a call is about: that of a file in the folder, `.` for the folder, or None for anything else."""
     for path in call.paths():
@@ -301,7 +296,7 @@ def check_file(place, end, commands, kept, first):
         check_stage(table)
         return
     begins = payloads[:len(before)] == before
-    holds(f"the file has {table.jobs_reply()}, in version {table.version}", rows_and_version(table) in tables or is_round and begins)
+    holds(f"the file has {table.jobs_reply()}, in version {table.version}", table.contents() in tables or is_round and begins)
 
 
 def check_again(place, before):
@@ -321,7 +316,7 @@ def check(folder, scene, kept, failure):
     if not earlier:
         shutil.rmtree(place.root)
         os.mkdir(place.root)
-    before, first = place.children.stages(), rows_and_version(place.table())
+    before, first = place.children.stages(), place.table().contents()
     done, calls = place.traced(commands, failure.inject())
     end = failed_in(done, calls)
     if end and end.outcome:
@@ -343,7 +338,7 @@ def usual(folder, scene):
         done, calls = place.traced(commands[:number])
         holds(f"{scene}: {done}", done.stdout.decode().splitlines() == replies_to(commands[:number]) and not done.returncode)
         table, payloads = place.stored_table()
-        kept.append((rows_and_version(table), payloads))
+        kept.append((table.contents(), payloads))
         shutil.rmtree(place.folder)
     return calls, kept
 

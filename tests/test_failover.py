@@ -18,6 +18,7 @@ the number of failovers. With FAILOVER_CARELESS the volume and its mounts are co
 requires. Then `fast_alternation`, `a_host_that_is_cut_off` and `bricks_that_are_restarted` must be seen to fail: choose each of them alone,
 with PYTEST_ADDOPTS="-k NAME".
 """
+import contextlib
 import os
 import random
 import shutil
@@ -92,8 +93,7 @@ class Seat:
     def serves(self):
         """Whether it replies. A service that fails because another program owns the folder is started again, as a systemd unit is."""
         if self.running.poll() is not None:
-            if self.fault_log() != OWNED:
-                raise Difference(f"the service of {self.host.name} ended with {self.running.returncode}: {self.fault_log()}")
+            holds(f"the service of {self.host.name} ended with {self.running.returncode}: {self.fault_log()}", self.fault_log() == OWNED)
             self.refused += 1
             self.launch()
         try:
@@ -405,11 +405,9 @@ def test_no_quorum(volume):
 def ask_until_gone(client, command, most=5):
     """The replies to a command that is sent `most` times, or until the service closes the connection."""
     replies = []
-    try:
+    with contextlib.suppress(OSError, Difference):
         while len(replies) < most:
             replies.append(client.ask(command))
-    except (OSError, Difference):
-        pass
     return replies
 
 

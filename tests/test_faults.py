@@ -18,8 +18,9 @@ import pytest
 from harness import journal
 from harness.admin import image_of_rows
 from harness.checks import LONGEST, same
+from harness.files import Place
 from harness.journal import close
-from harness.programs import path_of
+from harness.programs import path_of, shell_on
 from harness.stories import of_q, Q, spelled
 
 # The user nobody, and the rights of a program that runs as it.
@@ -49,25 +50,21 @@ class Row:
     output: str = os.devnull
 
 
-class Room:
+class Room(Place):
     """The folder of a row, with a spool. Each action of the row is a method with its arguments."""
 
     def __init__(self, path, held):
-        self.path, self.held = path, held
+        super().__init__(path)
+        self.held = held
         os.chmod(path, 0o755)
         self.spool("spool")
-
-    def at(self, name):
-        return os.path.join(self.path, name)
 
     def named(self, word):
         """A word of a row, with the path of the folder."""
         return re.sub(r"\bAT\b", self.path, word)
 
     def file(self, name, content=b"", mode=0o644):
-        with open(self.at(name), "wb") as file:
-            file.write(content)
-        os.chmod(self.at(name), mode)
+        self.write(name, content, mode)
 
     def folder(self, name, mode=0o755):
         os.mkdir(self.at(name))
@@ -106,12 +103,7 @@ class Room:
 
     def owned(self, name):
         """A program that has the spool of a folder open."""
-        pipe = subprocess.PIPE
-        shell = self.held.enter_context(subprocess.Popen([path_of("spool_shell"), "--root", self.at(name)], stdin=pipe, stdout=pipe))
-        self.held.callback(shell.stdin.close)
-        shell.stdin.write(b"queues\n")
-        shell.stdin.flush()
-        shell.stdout.readline()
+        self.held.enter_context(shell_on(self.at(name)))
 
     def served(self, name):
         """A socket that a program serves."""

@@ -10,6 +10,7 @@ standard error. One more start must list exactly the jobs that were acknowledged
 have only the spool's file and its lock file. With FIRST_START_FOLDERS in the
 environment the folder is on these mounts of one volume; test_failover.py has two.
 """
+import contextlib
 import os
 import re
 import shutil
@@ -18,7 +19,8 @@ import tempfile
 
 import pytest
 
-from harness.checks import Difference, words_of_faults
+from harness.checks import Difference, holds, words_of_faults
+from harness.child_folder import Shell
 from harness.programs import SHELL
 
 pytestmark = pytest.mark.needs("spool_shell")
@@ -50,43 +52,34 @@ def script(program):
     return QUEUE + "".join(f'create lab ann "{title(program, number)}" 1 50 ""\n' for number in range(JOBS))
 
 
-class Program:
+class Program(Shell):
     """A program that waits for its gate to open."""
 
     def __init__(self, root, name, size):
+        super().__init__(["sh", "-c", GATE, "sh", SHELL, "--root", "."] + (["--size", str(size)] if size else []), root)
         self.name = name
-        words = ["sh", "-c", GATE, "sh", SHELL, "--root", "."] + (["--size", str(size)] if size else [])
-        pipe = subprocess.PIPE
-        self.child = subprocess.Popen(words, cwd=root, stdin=pipe, stdout=pipe, stderr=pipe, text=True)
         self.replies = []
 
     def give(self, text):
         """Writes the text to it, unless the program has ended."""
-        try:
-            self.child.stdin.write(text)
-            self.child.stdin.flush()
-        except BrokenPipeError:
-            pass
+        with contextlib.suppress(BrokenPipeError):
+            super().give(text)
 
     def end_input(self):
-        try:
+        with contextlib.suppress(BrokenPipeError):
             self.child.stdin.close()
-        except BrokenPipeError:
-            pass
 
     def has_answered(self):
         """Whether it replies; otherwise it has ended."""
-        line = self.child.stdout.readline()
+        line = self.line()
         self.replies += [line] if line else []
         return bool(line)
 
     def end(self):
         """Its last replies, its error messages and its status."""
-        self.replies += self.child.stdout.readlines()
-        self.complaints = words_of_faults(self.child.stderr.read())
-        self.status = self.child.wait()
-        self.child.stdout.close()
-        self.child.stderr.close()
+        left, errors = super().end()
+        self.replies += left.splitlines()
+        self.complaints, self.status = words_of_faults(errors), self.child.returncode
 
     def jobs(self):
         """The job numbers in its replies, with the titles that it sent."""
@@ -113,8 +106,7 @@ def started(root, count, size, held, folders):
             if not held:
                 program.end_input()
         owners = [program.name for program in programs if program.has_answered()]
-        if held and len(owners) != 1:
-            raise Difference(f"the programs {owners} answered, not one")
+        holds(f"the programs {owners} answered, not one", not held or len(owners) == 1)
         for program in programs:
             program.end_input()
         for program in programs:
@@ -146,12 +138,9 @@ def trial(root, count, size, held, folders=()):
     """Programs in one folder, and its contents afterwards."""
     answered = sorted(job for program in started(root, count, size, held, folders) for job in program.jobs())
     listed = listing(root)
-    if not answered or listed != answered:
-        raise Difference(f"listed {listed}, answered {answered}")
-    if [number for number, _ in listed] != list(range(1, len(listed) + 1)):
-        raise Difference(f"numbers are given twice or left out: {listed}")
-    if sorted(os.listdir(root)) != ["spool.disk", "spool.lock"]:
-        raise Difference(f"the folder has {os.listdir(root)}")
+    holds(f"listed {listed}, answered {answered}", answered and listed == answered)
+    holds(f"numbers are given twice or left out: {listed}", [number for number, _ in listed] == list(range(1, len(listed) + 1)))
+    holds(f"the folder has {os.listdir(root)}", sorted(os.listdir(root)) == ["spool.disk", "spool.lock"])
 
 
 @pytest.mark.parametrize("held", [True, False], ids=["input held", "input ended"])

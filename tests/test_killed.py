@@ -8,21 +8,21 @@ Several lives follow in the last of these folders, in half of the runs with a sp
 one. A life gets one command at a time, and is killed after some reply, inside the text of a command, or while a command is in progress. One
 command in five is a checkpoint, a clock cancels some jobs after their start deadlines, and some ended jobs are purged. The `jobs` command
 of the next life must list exactly the acknowledged jobs, and at most the one of the command in progress besides. The documents of the jobs
-that have not ended must be on the disk, and the version must be that of the table, which this file reads itself. The expected listing comes
-from a table of its own. The moments of the kills depend on the machine, so Hypothesis could not find a smaller case.
+that have not ended must be on the disk, and the version must be that of the table. harness/spool_model.py computes the tables, and reads the
+file. The moments of the kills depend on the machine, so Hypothesis could not find a smaller case.
 """
 import copy
 import os
 import random
 import string
-import struct
 import tempfile
 import time
 from pathlib import Path
 
 import pytest
 
-from harness.checks import Difference
+from harness import journal, spool_model as model
+from harness.checks import Difference, holds
 from harness.child_folder import Shell
 from harness.programs import SHELL
 
@@ -37,83 +37,33 @@ TYPE = "application/octet-stream"
 FIRST = ("queue", "lab")
 
 
-# A header and a gate's record, and the payloads that contain bytes of a document: a piece of a listing and a send.
-HEADER = struct.Struct(">BBQ6x")
-RECORD = struct.Struct(">BI")
-PART = struct.Struct(">BII")
-OPEN = 0xA5
-PARTS = (0x43, 0x06)
+def event_of(table, name, *words):
+    """The event of a command, and its reply if it is accepted."""
+    if name == "queue":
+        return journal.Queue(words[0], "spoolfile:/out", TYPE).event(), "ok"
+    if name in ("create", "createby"):
+        title, by = (*words, None)[:2]
+        return journal.Job(table.highest + 1, "lab", "ann", title, by=by).event(), f"ok job {table.highest + 1}"
+    if name == "send":
+        number, document = words
+        return journal.send(number, document.encode()), f"ok bytes {len(table.jobs[number].document) + len(document)}"
+    if name == "close":
+        return journal.close(*words, media=TYPE), f"ok type {TYPE} stages 1"
+    return {"clock": journal.clock, "cancel": journal.cancel, "purge": journal.purge}[name](*words), "ok"
 
 
-class Job:
-    def __init__(self, title, by=None):
-        self.title = title
-        self.by = by
-        self.document = ""
-        # Its state and reason, or None once it was purged.
-        self.shown = "4 job-incoming"
-
-
-class Table:
-    """The queues and jobs that the acknowledged commands created."""
-
-    def __init__(self):
-        self.queues = []
-        self.jobs = []
-        self.now = 0
-        self.version = 2
-
-    def listing(self):
-        """The reply to `jobs`."""
-        lines = [
-            f'job {n} lab {job.shown} "ann" {len(job.document)} 0 "{job.title}"'
-            for n, job in enumerate(self.jobs, 1)
-            if job.shown
-        ]
-        return lines + [f"ok {len(lines)}"]
-
-    def documents(self):
-        """The documents of the jobs that have not ended."""
-        return {n: job.document for n, job in enumerate(self.jobs, 1) if job.shown and not job.shown.startswith("7")}
-
-    def after(self, command):
-        """The table after a command, and the command's reply."""
-        table = copy.deepcopy(self)
-        return table, table.change(*command)
-
-    def change(self, name, *words):
-        if name == "checkpoint":
-            self.version = 2
-            return "ok"
-        if name == "clock":
-            self.tell(words[0])
-            return "ok"
-        if name == "queue" and words[0] in self.queues:
-            return "error 2 QueueExists"
-        if name == "queue":
-            self.queues.append(words[0])
-            return "ok"
-        if name in ("createby", "purge") and self.version == 1:
-            return "error 17 NeedsCheckpoint"
-        if name in ("create", "createby"):
-            self.jobs.append(Job(*words))
-            return f"ok job {len(self.jobs)}"
-        job = self.jobs[words[0] - 1]
-        if name == "send":
-            job.document += words[1]
-            return f"ok bytes {len(job.document)}"
-        if name == "close":
-            job.shown = "3 none"
-            return f"ok type {TYPE} stages 1"
-        job.shown = "" if name == "purge" else "7 canceled"
-        return "ok"
-
-    def tell(self, moment):
-        """Sets the time, and cancels waiting jobs whose deadline has passed."""
-        self.now = max(self.now, moment)
-        for job in self.jobs:
-            if job.shown == "3 none" and job.by is not None and job.by < self.now:
-                job.shown = "7 canceled"
+def after(table, command):
+    """The table after a command, and the command's reply."""
+    changed = copy.deepcopy(table)
+    if command == ("checkpoint",):
+        changed.version = journal.NEWEST
+        return changed, "ok"
+    event, reply = event_of(table, *command)
+    try:
+        changed.apply(event)
+        return changed, reply
+    except model.Unfit:
+        return table, "error 2 QueueExists" if command[0] == "queue" else "error 17 NeedsCheckpoint"
 
 
 def text_of(name, *words):
@@ -131,29 +81,26 @@ def text_of(name, *words):
 
 
 def next_command(table, chance):
-    """A command that the table accepts."""
+    """A command that the table accepts, or refuses because of its version."""
     if not table.queues:
         return FIRST
     if chance.random() < 0.2:
         return ("checkpoint",)
     if chance.random() < 0.1:
         return ("clock", chance.randrange(100))
-    number = chance.randrange(len(table.jobs) + 1)
-    if number == 0:
-        return new_job(table, chance)
-    shown = table.jobs[number - 1].shown
-    if shown == "4 job-incoming":
+    job = table.jobs.get(chance.randrange(table.highest + 1))
+    if job and job.phase == "incoming":
         document = "".join(chance.choices(string.ascii_letters, k=chance.randrange(1, 3000)))
-        return chance.choice([("send", number, document), ("close", number), ("cancel", number)])
-    if shown == "3 none":
-        return ("cancel", number)
-    if shown == "7 canceled" and chance.random() < 0.5:
-        return ("purge", number)
+        return chance.choice([("send", job.number, document), ("close", job.number), ("cancel", job.number)])
+    if job and job.phase == "waiting":
+        return ("cancel", job.number)
+    if job and chance.random() < 0.5:
+        return ("purge", job.number)
     return new_job(table, chance)
 
 
 def new_job(table, chance):
-    title = f"Job {len(table.jobs) + 1}"
+    title = f"Job {table.highest + 1}"
     return ("create", title) if chance.random() < 0.5 else ("createby", title, chance.randrange(120))
 
 
@@ -183,22 +130,6 @@ class Life(Shell):
         return lines
 
 
-def on_disk(root):
-    """The version of the spool's current area, and its documents, by the numbers of their jobs."""
-    disk = Path(root, "spool.disk").read_bytes()
-    headers = [(HEADER.unpack_from(disk, base), base) for base in (0, len(disk) // 2)]
-    _, base, version = max((epoch, base, version) for (gate, version, epoch), base in headers if gate == OPEN)
-    at, documents = base + HEADER.size, {}
-    while disk[at] == OPEN:
-        _, length = RECORD.unpack_from(disk, at)
-        payload = disk[at + RECORD.size : at + RECORD.size + length]
-        if payload[0] in PARTS:
-            _, job, _ = PART.unpack_from(payload)
-            documents[job] = documents.get(job, "") + payload[PART.size :].decode()
-        at += RECORD.size + length
-    return version, documents
-
-
 def grow_old(root, tables):
     """Converts a spool to version 1, if it was created. It has no deadlines yet, so the byte in its header is all that differs."""
     path = os.path.join(root, "spool.disk")
@@ -212,21 +143,19 @@ def grow_old(root, tables):
 
 def of_disk(root, tables):
     """The tables whose version and documents are those on the disk."""
-    version, found = on_disk(root)
-    tables = [table for table in tables if table.version == version]
-    if not tables:
-        raise Difference(f"the disk has the version {version}")
-    for job, document in tables[0].documents().items():
-        if found.get(job, "") != document:
-            raise Difference(f"job {job} has the document {found.get(job)!r}, not {document!r}")
+    found = model.stored_table(Path(root, "spool.disk").read_bytes())
+    tables = [table for table in tables if table.version == found.version]
+    holds(f"the disk has the version {found.version}", tables)
+    documents = {job.number: job.document for job in found.jobs.values()}
+    for job in tables[0].jobs.values():
+        holds(f"job {job.number} has the document {documents.get(job.number)!r}, not {job.document!r}", documents.get(job.number) == job.document)
     return tables
 
 
 def recognised(listed, tables):
     """The tables with this listing: several if a queue, a clock or a checkpoint was in progress, which `jobs` does not list."""
-    found = [table for table in tables if table.listing() == listed]
-    if not found:
-        raise Difference(f"listed {listed}, answered {tables[0].listing()}")
+    found = [table for table in tables if table.jobs_reply() == listed]
+    holds(f"listed {listed}, answered {tables[0].jobs_reply()}", found)
     return found
 
 
@@ -237,12 +166,11 @@ def live(root, tables, chance):
         found = of_disk(root, recognised(life.jobs(), tables))
         for _ in range(chance.randrange(12)):
             command = next_command(found[0], chance)
-            after = [table.after(command) for table in found]
+            wanted = [after(table, command) for table in found]
             life.give(text_of(*command))
             answered = life.reply()
-            found = [table for table, reply in after if reply == answered]
-            if not found:
-                raise Difference(f"{command} was answered {answered!r}, not {after[0][1]!r}")
+            found = [table for table, reply in wanted if reply == answered]
+            holds(f"{command} was answered {answered!r}, not {wanted[0][1]!r}", found)
         if chance.random() < 0.3:
             return found
         command = next_command(found[0], chance)
@@ -252,7 +180,7 @@ def live(root, tables, chance):
             return found
         life.give(text)
         time.sleep(chance.random() * 0.004)
-        return found + [table.after(command)[0] for table in found]
+        return found + [after(table, command)[0] for table in found]
     finally:
         life.kill()
 
@@ -277,10 +205,9 @@ def making(root, size, seconds):
         time.sleep(seconds)
     finally:
         replies, complaints = life.kill()
-    if complaints or replies not in ("", "ok\n"):
-        raise Difference(f"a life that makes the spool answered {replies!r} and wrote {complaints!r}")
-    after, _ = Table().after(FIRST)
-    return [after] if replies else [Table(), after]
+    holds(f"a life that makes the spool answered {replies!r} and wrote {complaints!r}", not complaints and replies in ("", "ok\n"))
+    made, _ = after(model.Table(), FIRST)
+    return [made] if replies else [model.Table(), made]
 
 
 def check_opened(root, tables):
@@ -290,8 +217,7 @@ def check_opened(root, tables):
         recognised(life.jobs(), tables)
         life.give(text_of(*FIRST))
         answered = life.reply()
-        if answered != "error 2 QueueExists" and (answered != "ok" or len(tables) == 1):
-            raise Difference(f"{FIRST} was answered {answered!r}")
+        holds(f"{FIRST} was answered {answered!r}", answered == "error 2 QueueExists" or answered == "ok" and len(tables) > 1)
     finally:
         life.kill()
 

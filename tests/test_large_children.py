@@ -28,7 +28,6 @@ def rows_of(place):
 def test_queues_at_once(place):
     """64 queues print in one round, each a document of its own, and then all of them again with a side channel."""
     place.tool("backend", "spoolfile")
-    place.list_programs()
     documents = {turn: bytes_of(turn, turn * 1_111) for turn in range(QUEUES)}
     script = Script()
     for turn in documents:
@@ -36,9 +35,7 @@ def test_queues_at_once(place):
     # The numbers of the jobs are in the opposite order of the names of their queues.
     numbers = {number: QUEUES - number for number in range(1, QUEUES + 1)}
     for number, turn in numbers.items():
-        script.ask(f'create q{turn:02} ann "" 1 50 ""', f"ok job {number}")
-        script.document(number, documents[turn])
-        script.ask(f"close {number} page", f"ok type {TYPE} stages 1")
+        script.submit(number, f"q{turn:02}", documents[turn])
     script.ask("round", f"ok started {QUEUES} finished {QUEUES}")
     ask_jobs(script, [listed(number, f"q{turn:02}", DONE, len(documents[turn])) for number, turn in numbers.items()])
     place.print_all(script, "--size", str(1 << 25))
@@ -52,13 +49,11 @@ def ask_devices_at_once(place):
     place.fresh_spool()
     place.tool("backend", "sideask")
     place.lines.append(f"side {TOOLS} side-end")
-    place.list_programs()
     ids = {turn: f"MFG:{turn};" * (turn + 1) for turn in range(QUEUES)}
     script = Script()
     for turn, text in ids.items():
         script.ask(f"queue q{turn:02} sideask:{place.at('asked')}-{turn}?id={text} {TYPE} abort-job", "ok")
-        script.ask(f'create q{turn:02} ann "" 1 50 ""', f"ok job {turn + 1}")
-        script.ask(f"close {turn + 1} page", f"ok type {TYPE} stages 1")
+        script.submit(turn + 1, f"q{turn:02}")
     script.ask("round", f"ok started {QUEUES} finished {QUEUES}")
     ask_jobs(script, [listed(turn + 1, f"q{turn:02}", DONE, 0) for turn in ids])
     place.print_all(script)
@@ -83,7 +78,6 @@ def test_stages_and_attempts(place):
     """A job of 15 filters and a backend, thirteen times: 208 rounds, each with the output of the previous stage."""
     place.script("filter", "passes", PASSES)
     place.script("backend", "last", AT_LAST)
-    place.list_programs()
     place.write("types", TYPES.encode())
     place.write("convs", "".join(f"a/{n} a/{n + 1} 10 passes\n" for n in range(STAGES - 1)).encode())
     script = Script()
@@ -116,13 +110,11 @@ def test_many_attempts(place):
     """Two jobs that are tried 200 times, each by its policy: one until its limit, and one until it prints."""
     place.script("backend", "fails", FAILS)
     place.script("backend", "prints", PRINTS_LAST)
-    place.list_programs()
     script = Script()
     script.ask(f"queue a fails:/x {TYPE} retry-current-job 30 {TURNS}", "ok")
     script.ask(f"queue b prints:/x {TYPE} retry-job 0 0", "ok")
     for number, queue in enumerate("ab", 1):
-        script.ask(f'create {queue} ann "" 1 50 ""', f"ok job {number}")
-        script.ask(f"close {number} page", f"ok type {TYPE} stages 1")
+        script.submit(number, queue)
     script.ask("drain 1000", f"ok rounds {TURNS + 1}")
     ask_jobs(script, [listed(1, "a", "8 retry-limit", 0), listed(2, "b", DONE, 0)])
     script.ask("checkpoint", "ok")
@@ -144,7 +136,6 @@ MANY = 8
 def test_long_documents(place):
     """Documents of 16,777,216 bytes on eight queues at once, whose types are detected from their last bytes, and not a byte more."""
     place.tool("backend", "spoolfile")
-    place.list_programs()
     place.write("types", f"a/tail string({DOCUMENT - 5},TAIL!)\n".encode())
     documents = {number: bytes_of(number, DOCUMENT - 5) + b"TAIL!" for number in range(1, MANY + 1)}
     script = Script()
@@ -182,7 +173,6 @@ def test_long_outputs(place):
     """An output of 16,777,216 bytes is passed to the next stage. One byte more is lost, and so are 48 MiB."""
     place.script("filter", "adds", ADDS)
     place.tool("backend", "spoolfile")
-    place.list_programs()
     place.write("types", TYPES.encode())
     place.write("convs", b"a/0 a/1 10 adds\n")
     document = bytes_of(3, SEND)
@@ -190,9 +180,7 @@ def test_long_outputs(place):
     added = {1: DOCUMENT - SEND - 1, 2: DOCUMENT - SEND, 3: DOCUMENT - SEND + 1, 4: 3 * DOCUMENT}
     for number, more in added.items():
         script.ask(f"queue q{number} spoolfile:{place.at('printed')}-{number} a/1 abort-job", "ok")
-        script.ask(f'create q{number} ann "{more}" 1 50 ""', f"ok job {number}")
-        script.document(number, document)
-        script.ask(f"close {number} a.page", "ok type a/0 stages 2")
+        script.submit(number, f"q{number}", document, str(more), "a.page", "a/0 stages 2")
     script.ask("round", "ok started 4 finished 4")
     script.ask("round", "ok started 2 finished 2")
     shown = {1: DONE, 2: DONE, 3: "8 filter-failed", 4: "8 filter-failed"}
@@ -215,7 +203,6 @@ class Says:
         self.rows = []
         self.dropped = []
         place.script("backend", "says", REPORTS)
-        place.list_programs()
 
     def add(self, text, pages=0, reasons=(), message="", attributes=(), dropped=None):
         number = len(self.jobs) + 1
@@ -223,8 +210,7 @@ class Says:
         self.place.write(f"said-{number}", text)
         self.script.ask(f"queue {queue} says:/x {TYPE} abort-job", "ok")
         title = self.place.at(f"said-{number}")
-        self.script.ask(f'create {queue} ann "{title}" 1 50 ""', f"ok job {number}")
-        self.script.ask(f"close {number} page", f"ok type {TYPE} stages 1")
+        self.script.submit(number, queue, title=title)
         self.jobs.append(listed(number, queue, DONE, 0, pages, title))
         kept = ",".join(sorted(reasons)) or "none"
         self.queues.append(f"queue {queue} 3 accepting {TYPE} abort-job 30 5 {kept} {quoted(message)}")

@@ -174,9 +174,7 @@ def change_areas(script, jobs):
     number = len(jobs)
     script.ask(f"close {number} page", f"ok type {TYPE} stages 1")
     jobs[-1] = (*jobs[-1][:2], "3 none")
-    script.ask('create alive1 ann "" 1 50 ""', f"ok job {number + 1}")
-    script.document(number + 1, bytes_of(9, LENGTH))
-    script.ask(f"close {number + 1} page", f"ok type {TYPE} stages 1")
+    script.submit(number + 1, "alive1", bytes_of(9, LENGTH))
     jobs.append(("alive1", LENGTH, "3 none"))
     ask_jobs(script, listing(jobs))
 
@@ -226,7 +224,6 @@ def test_gibibyte_made(place):
 def test_gibibyte_file(place):
     """A spool of 1 GiB in a file, with the first area filled up to its end, and then with the second one."""
     place.tool("backend", "spoolfile")
-    place.list_programs()
     for base in (0, HALF):
         used_to_the_end(place, base)
 
@@ -257,9 +254,7 @@ def test_gibibyte_in_memory(place):
     ask_jobs(script, listing(jobs))
     script.ask("checkpoint", "ok")
     ask_jobs(script, listing(jobs))
-    script.ask('create lab ann "" 1 50 ""', f"ok job {number + 1}")
-    script.document(number + 1, piece * SENDS)
-    script.ask(f"close {number + 1} page", f"ok type {TYPE} stages 1")
+    script.submit(number + 1, "lab", piece * SENDS)
     jobs.append(("lab", SENDS * SEND, "3 none"))
     ask_jobs(script, listing(jobs))
     place.serve(script, "--size", str(SIZE), root=False)

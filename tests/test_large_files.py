@@ -60,18 +60,14 @@ def test_long_files(place):
     for number in range(LINES):
         place.lines.append(f"filter direct{number} /bin/sh {place.at('filter-inward')}")
         place.lines.append(f"backend b{number} /bin/sh {place.at('filter-inward')}")
-    place.list_programs()
     chosen = [0, 1, 12, 13, 19, 2_500, LINES - 7, LINES - 1]
     script = Script()
     for job, number in enumerate(chosen, 1):
         script.ask(f"queue q{job} spoolfile:{place.at('printed')}-{job} t/target abort-job", "ok")
-        script.ask(f'create q{job} ann "" 1 50 ""', f"ok job {job}")
-        script.document(job, bytes_of(job, 1_000))
-        script.ask(f"close {job} page.S{number}", f"ok type t/t{number} stages {len(filters_of(number)) + 1}")
+        script.submit(job, f"q{job}", bytes_of(job, 1_000), name=f"page.S{number}", closed=f"t/t{number} stages {len(filters_of(number)) + 1}")
     last = len(chosen) + 1
     script.ask(f"queue last b{LINES - 1}:/x t/t0 abort-job", "ok")
-    script.ask('create last ann "" 1 50 ""', f"ok job {last}")
-    script.ask(f"close {last} page.s0", "ok type t/t0 stages 1")
+    script.submit(last, "last", name="page.s0", closed="t/t0 stages 1")
     script.ask("drain 10", "ok rounds 4")
     jobs = [listed(job, f"q{job}", DONE, 1_000) for job in range(1, last)]
     ask_jobs(script, [*jobs, listed(last, "last", DONE, 0)])
@@ -106,7 +102,6 @@ def test_long_queries(place):
     place.lines.append(f"backend a /bin/sh {place.at('wrapper')}")
     place.write("wrapper", f'exec python3 -ES {place.at("asks")}\n'.encode())
     place.lines.append(f"side {TOOLS} side-end")
-    place.list_programs()
     # The last of 64 options sets the state. With one more option all have their defaults.
     options = "&".join(f"o{n}=v" for n in range(62)) + "&id=x"
     queries = {
@@ -119,8 +114,7 @@ def test_long_queries(place):
     script = Script()
     for job, query in enumerate(queries, 1):
         script.ask(f"queue q{job} a:?{query} {TYPE} abort-job", "ok")
-        script.ask(f'create q{job} ann "" 1 50 ""', f"ok job {job}")
-        script.ask(f"close {job} page", f"ok type {TYPE} stages 1")
+        script.submit(job, f"q{job}")
     script.ask("round", f"ok started {len(queries)} finished {len(queries)}")
     ask_jobs(script, [listed(job, f"q{job}", DONE, 0) for job in range(1, len(queries) + 1)])
     place.print_all(script)

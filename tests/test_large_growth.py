@@ -121,8 +121,7 @@ def test_files_grow(place):
         place.fresh_spool()
         script = Script()
         script.ask("queue lab spoolfile:/out t/target abort-job", "ok")
-        script.ask('create lab ann "" 1 50 ""', "ok job 1")
-        script.ask(f"close 1 page.s{size - 1}", f"ok type t/t{size - 1} {way}")
+        script.submit(1, "lab", name=f"page.s{size - 1}", closed=f"t/t{size - 1} {way}")
         return place.print_all(script, root=False).seconds
 
     keeps_pace("types", types)
@@ -137,11 +136,9 @@ def test_reports_grow(place):
     """About a mebibyte on standard error, in lines of each kind."""
     kinds = [b"PAGE: 1 2\n", b"STATE: +media-empty,toner-low\n", b"DEBUG: " + 60 * b"x" + b"\n", b"y\n"]
     place.script("backend", "says", REPORTS)
-    place.list_programs()
     script = Script()
     script.ask(f"queue lab says:/x {TYPE} abort-job", "ok")
-    script.ask(f'create lab ann "{place.at("said")}" 1 50 ""', "ok job 1")
-    script.ask("close 1 page", f"ok type {TYPE} stages 1")
+    script.submit(1, "lab", title=place.at("said"))
     script.ask("round", "ok started 1 finished 1")
 
     def read(size, line):

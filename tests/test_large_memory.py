@@ -7,7 +7,7 @@ import signal
 
 import pytest
 
-from harness.checks import Difference, quoted, same
+from harness.checks import holds, quoted, same
 from harness.large_run import ask_jobs, bytes_of, DONE, listed, same_file, Script, TYPE
 from harness.programs import SHELL
 
@@ -162,8 +162,7 @@ def test_too_little_memory(place):
     for limit in SCARCE:
         place.fresh_spool()
         met.append(served_scarcely(place, limit))
-    if not any(met):
-        raise Difference(f"memory never ran out, not even in {SCARCE[-1]} KiB")
+    holds(f"memory never ran out, not even in {SCARCE[-1]} KiB", any(met))
 
 
 MANY = 8
@@ -179,7 +178,6 @@ SCARCE_ROUNDS = (6_000, 5_200, 5_000, 4_600, 4_200)
 def test_scarce_rounds(place):
     """Eight long documents are closed and printed with too little memory, and then with enough: each is complete in the end."""
     place.tool("backend", "spoolfile")
-    place.list_programs()
     for limit in SCARCE_ROUNDS:
         place.fresh_spool()
         script = Script()
@@ -219,8 +217,7 @@ def finish_printing(place, closed):
     found = [line.split(" ")[3] for line in found_afterwards(place)[:-1]]
     script = Script()
     for number in range(1, MANY + 1):
-        if closed.get(number) and found[number - 1] == "4":
-            raise Difference(f"job {number} was closed, and is incoming")
+        holds(f"job {number} was closed, and is incoming", not closed.get(number) or found[number - 1] != "4")
         if found[number - 1] == "4":
             script.ask(f"close {number} page", f"ok type {TYPE} stages 1")
     place.print_all(script)

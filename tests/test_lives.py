@@ -26,7 +26,7 @@ from pathlib import Path
 
 import pytest
 
-from harness import journal
+from harness import journal, spool_model as model
 from harness.checks import Difference, holds
 from harness.child_folder import Shell
 
@@ -66,7 +66,7 @@ def attempts_in(content):
     found, version = {}, journal.current_version(content)
     for payload in journal.current(content)[0]:
         if payload[0] == ROW:
-            row = journal.read_row(payload, version)
+            row = model.read_row(payload, version)
             found[row.number] = row.attempts
         elif payload[0] == START:
             number = int.from_bytes(payload[1:5], "big")
@@ -127,16 +127,13 @@ class Story:
         shown = {int(line.split()[1]): tuple(line.split()[3:5]) for line in lines[:-1]}
         listed = {number: words[0] for number, words in shown.items()}
         for number in range(1, self.answered + 1):
-            if number not in listed and number not in self.purging:
-                raise Difference(f"job {number} was acknowledged and is not listed")
+            holds(f"job {number} was acknowledged and is not listed", number in listed or number in self.purging)
         for number in self.purged & set(listed):
             raise Difference(f"job {number} was purged and is in state {listed[number]}")
         for number in self.canceled & set(listed):
-            if listed[number] != "7":
-                raise Difference(f"job {number} was canceled and is in state {listed[number]}")
+            holds(f"job {number} was canceled and is in state {listed[number]}", listed[number] == "7")
         for number, before in self.shown.items():
-            if shown.get(number, before) != before:
-                raise Difference(f"job {number} had ended as {before} and is listed as {shown[number]}")
+            holds(f"job {number} had ended as {before} and is listed as {shown.get(number)}", shown.get(number, before) == before)
         for number, state in listed.items():
             if state in "789":
                 self.sees_end(number)
@@ -156,8 +153,7 @@ class Story:
                 pass
         finally:
             complaints = (life.end() if life.killer else life.kill())[1]
-        if not all(line.startswith("spool: job ") for line in complaints.splitlines()):
-            raise Difference(f"it wrote {complaints!r}")
+        holds(f"it wrote {complaints!r}", all(line.startswith("spool: job ") for line in complaints.splitlines()))
         self.folder.until_no_child_runs()
         self.check_stages()
 
@@ -239,8 +235,7 @@ class Story:
         if len(set(begun)) != len(begun):
             raise Difference(f"begun twice: {sorted(key for key in set(begun) if begun.count(key) > 1)}")
         for place, (number, attempt, stage) in enumerate(begun[self.checked:], self.checked):
-            if place >= self.ended.get(number, place + 1):
-                raise Difference(f"job {number} had ended, and attempt {attempt} begins stage {stage}")
+            holds(f"job {number} had ended, and attempt {attempt} begins stage {stage}", place < self.ended.get(number, place + 1))
             seen = self.folder.at(f"seen-{number}-{attempt}-{stage}")
             attempts = attempts_in(Path(seen).read_bytes())
             if attempts.get(number, 0) != attempt:

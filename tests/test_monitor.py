@@ -11,15 +11,15 @@ import os
 import re
 import shutil
 import subprocess
-import threading
 import time
 from pathlib import Path
 
 import pytest
 
 from harness.checks import holds, LONGEST, same, until
+from harness.printers import Printer
 from harness.programs import ROOT
-from harness.service import listening, PIECE, send_document
+from harness.service import PIECE, send_document
 
 OFFICE = os.path.join(ROOT, "examples", "office")
 
@@ -95,22 +95,18 @@ def test_options_of_the_journal():
 
 # ---- the monitor
 
-class Answering(threading.Thread):
+class Answering(Printer):
     """A service that gives fixed answers."""
 
     def __init__(self, path, answers):
-        super().__init__(daemon=True)
         self.answers, self.asked = answers, set()
-        self.listener = listening(path)
-        self.start()
+        super().__init__(self.answer, 100, path=path)
 
-    def run(self):
-        while True:
-            line = self.listener.accept()[0]
-            with line, line.makefile("r") as commands:
-                for command in map(str.strip, commands):
-                    self.asked.add(command.split()[0])
-                    line.sendall((self.answers.get(command, "error syntax") + "\n").encode())
+    def answer(self, connection):
+        with connection.makefile("r") as commands:
+            for command in map(str.strip, commands):
+                self.asked.add(command.split()[0])
+                connection.sendall((self.answers.get(command, "error syntax") + "\n").encode())
 
 
 NOW = 1_800_000_000

@@ -19,6 +19,8 @@ from pathlib import Path
 import pytest
 
 from harness.checks import compare, LONGEST, reports_all
+from harness.child_folder import printed
+from harness.files import write
 from harness.printers import Printer, reset_after, take
 from harness.programs import ROOT, SHELL, TOOLS
 from harness.stock_documents import TYPED
@@ -99,13 +101,13 @@ def test_serve_an_office(room):
     compare("the remaining files", sorted(os.listdir(os.path.join(folder, "spool"))), [*run, "spool.disk", "spool.lock"])
 
 
-def served(room, name, programs, script):
-    """The replies to a script that is served in a fresh folder."""
+def served(room, name, programs, script, *words):
+    """The replies to a script that is served in a fresh folder, with these programs and further words."""
     folder = os.path.join(room, name)
     os.mkdir(folder)
     listed = os.path.join(room, name + ".programs")
     Path(listed).write_text(programs)
-    return ran(name, [SHELL, "--root", folder, "--programs", listed], script.encode())
+    return ran(name, [SHELL, "--root", folder, "--programs", listed, *words], script if isinstance(script, bytes) else script.encode())
 
 
 @reports_all
@@ -179,24 +181,13 @@ def test_print_again_after_a_reset(room):
 @reports_all
 def test_print_to_socket(room):
     printer = Printer(take)
-    folder = os.path.join(room, "socket")
-    os.mkdir(folder)
-    programs = os.path.join(room, "programs")
-    Path(programs).write_text(f"backend socket {SOCKET}\nfilter prncount {TOOLS} prncount\n")
-    convs = os.path.join(room, "convs")
-    Path(convs).write_text("application/octet-stream application/x-prn 1 prncount\n")
+    programs = f"backend socket {SOCKET}\nfilter prncount {TOOLS} prncount\n"
+    convs = write(os.path.join(room, "convs"), "application/octet-stream application/x-prn 1 prncount\n")
     page = bytes(range(256)) * 200
-    script = b"".join(
-        [
-            b"queue net socket://127.0.0.1:%d/?waiteof=false application/x-prn retry-job\n" % printer.port,
-            b'create net ann "Bytes" 1 50 ""\n',
-            b"send 1 %d\n%s\n" % (len(page), page),
-            b"close 1 page\ndrain 9\njobs\n",
-        ]
-    )
-    words = [SHELL, "--root", folder, "--convs", convs, "--programs", programs]
+    uri = f"socket://127.0.0.1:{printer.port}/?waiteof=false"
+    script = printed("net", uri, "application/x-prn", "retry-job", document=page, title='"Bytes"') + b"drain 9\njobs\n"
     done = 'job 1 net 9 job-completed-successfully "ann" 51200 200 "Bytes"\nok 1\n'
-    compare("the end of the job to the socket", ran("the run to the socket", words, script)[-len(done) :], done)
+    compare("the end of the job to the socket", served(room, "socket", programs, script, "--convs", convs)[-len(done) :], done)
     compare("the bytes that the printer received", printer.all(), [page])
 
 

@@ -15,7 +15,7 @@ import pytest
 from harness import journal
 from harness.checks import LONGEST as SECONDS, same as check, words_of_faults
 from harness.files import read, write
-from harness.programs import is_sanitized, SHELL, shell_on
+from harness.programs import is_sanitized, limited, SHELL, shell_on
 
 pytestmark = pytest.mark.needs("spool_shell")
 
@@ -84,19 +84,11 @@ def test_other_arguments_are_refused(room):
 def test_each_error_has_its_word(room):
     check("a file with a blank", run("--types", "a b.types", folder=room), fault("file a b.types"))
     check("no folder", run("--root", "absent", folder=room), fault("disk, cause: absent"))
-
-    def little_memory():
-        resource.setrlimit(resource.RLIMIT_AS, (256 << 20, 256 << 20))
-
     # An address sanitizer takes terabytes of address space.
     if not is_sanitized(SHELL):
-        check("little memory", run("--size", str(MOST), preexec_fn=little_memory), fault("memory"))
+        check("little memory", run("--size", str(MOST), preexec_fn=limited(resource.RLIMIT_AS, 256 << 20)), fault("memory"))
     write(os.path.join(room, "a.programs"), b"")
-
-    def no_ends_of_children():
-        signal.signal(signal.SIGCHLD, signal.SIG_IGN)
-
-    ignored = run("--programs", "a.programs", folder=room, preexec_fn=no_ends_of_children)
+    ignored = run("--programs", "a.programs", folder=room, preexec_fn=lambda: signal.signal(signal.SIGCHLD, signal.SIG_IGN))
     check("SIGCHLD is ignored", ignored, fault("sigchld-ignored"))
 
 
@@ -106,15 +98,10 @@ def test_a_reader_or_a_writer_may_fail(room):
     ended = subprocess.run([SHELL, "--size", "4096"], stdin=given, capture_output=True, timeout=SECONDS)
     os.close(given)
     check("a reader that fails", (ended.stdout, words_of_faults(ended.stderr.decode()).encode(), ended.returncode), fault("read"))
-
-    def seven_bytes():
-        signal.signal(signal.SIGXFSZ, signal.SIG_IGN)
-        resource.setrlimit(resource.RLIMIT_FSIZE, (7, 7))
-
     path = os.path.join(room, "replies")
     with open(path, "wb") as replies:
         ended = subprocess.run([SHELL, "--size", "4096"], input=b"queues\nqueues\n", stdout=replies, stderr=subprocess.PIPE,
-                               timeout=SECONDS, preexec_fn=seven_bytes)
+                               timeout=SECONDS, preexec_fn=limited(resource.RLIMIT_FSIZE, 7))
     check("a writer that fails", (read(path), words_of_faults(ended.stderr.decode()), ended.returncode), (b"ok 0\nok", "spool: write\n", 1))
 
 

@@ -17,13 +17,13 @@ second, and so on until none is. The allocations of the children are not refused
 """
 import os
 import shutil
-import subprocess
 
 import pytest
 
 from harness import real_children, spool_model as model
-from harness.checks import holds, LONGEST
-from harness.programs import compiled
+from harness.allocations import counted, variables_for
+from harness.checks import holds
+from harness.child_folder import Shell
 
 pytestmark = pytest.mark.needs("gcc", "plain spool_shell")
 
@@ -67,45 +67,30 @@ class Ended(Exception):
 class Run(real_children.ShellFolder):
     """A run with a refused allocation, in a folder of its own."""
 
-    def __init__(self, library, folder, refused):
+    def __init__(self, folder, refused):
         super().__init__(folder, SIZE)
         self.log = os.path.join(folder, "counted")
-        self.environment = {"PATH": "/bin", "LD_PRELOAD": library, "REFUSED": str(refused), "COUNTED": self.log}
+        self.environment = {"PATH": "/bin", **variables_for(self.log, refused)}
         self.started = []
-        self.process = None
 
     def begin(self):
-        pipe = subprocess.PIPE
-        self.process = subprocess.Popen(self.words, stdin=pipe, stdout=pipe, stderr=pipe, env=self.environment)
+        self.shell = Shell(self.words, env=self.environment)
 
     def give(self, text):
         """The reply to a command, one line."""
         try:
-            self.process.stdin.write(text.encode())
-            self.process.stdin.flush()
+            self.shell.give(text)
         except BrokenPipeError:
             raise Ended from None
-        line = self.process.stdout.readline().decode()
+        line = self.shell.line()
         if not line:
             raise Ended
         return line.rstrip("\n")
 
     def end(self):
         """Its output after the last reply, its standard error and its status."""
-        try:
-            self.process.stdin.close()
-        except BrokenPipeError:
-            pass
-        left = self.process.stdout.read().decode(), real_children.faults_in(self.process.stderr.read().decode()), self.process.wait(LONGEST)
-        self.process.stdout.close()
-        self.process.stderr.close()
-        return left
-
-    def count(self):
-        """The number of its allocations, and whether one was refused."""
-        with open(self.log, encoding="utf-8", errors="replace") as file:
-            lines = [line.split(" ", 2) for line in file]
-        return int(lines[-1][0]), any(words[1] == "refused" for words in lines)
+        left, errors, status = self.shell.finish()
+        return left, real_children.faults_in(errors), status
 
     def take_stages(self):
         """The stages that were started since the last call."""
@@ -221,14 +206,14 @@ def check(tables, run):
     if answered == len(SCRIPT):
         check_jobs(run.table())
     check_again(run)
-    is_refused = run.count()[1] if os.path.exists(run.log) else True
+    is_refused = counted(run.log)[1] if os.path.exists(run.log) else True
     shutil.rmtree(run.folder)
     return is_refused, idle
 
 
-def usual(library, room):
+def usual(room):
     """The number of allocations of a run, and the tables before and after each command."""
-    run = Run(library, room, 0)
+    run = Run(room, 0)
     run.begin()
     tables = [model.Table()]
     for text, reply in SCRIPT:
@@ -240,7 +225,7 @@ def usual(library, room):
     holds(f"the run without a refusal starts {stages}", stages == [(job, 1, stage) for job in JOBS for stage in (1, 2)])
     check_jobs(run.table())
     holds("the run without a refusal leaves jobs", all(run.table().jobs[number].phase == ENDED_WELL for number in JOBS))
-    count, _ = run.count()
+    count, _ = counted(run.log)
     shutil.rmtree(room)
     return count, tables
 
@@ -248,11 +233,11 @@ def usual(library, room):
 @pytest.mark.parametrize("part", range(PARTS))
 def test_each_allocation_is_refused(part, memory_room, is_long):
     """In parts, so that they can run side by side. Usually every fourth allocation is refused."""
-    library, passed, idle = compiled("count_allocations.c", "-shared", "-fPIC"), 0, 0
-    count, tables = usual(library, os.path.join(memory_room, "0"))
+    passed, idle = 0, 0
+    count, tables = usual(os.path.join(memory_room, "0"))
     for number in range(1 + part, count + 1, PARTS if is_long else 4 * PARTS):
         print(f"allocation {number} of {count} refused, in {memory_room}/{number}")
-        is_refused, did_nothing = check(tables, Run(library, os.path.join(memory_room, str(number)), number))
+        is_refused, did_nothing = check(tables, Run(os.path.join(memory_room, str(number)), number))
         passed += is_refused
         idle += did_nothing
     rounds = sum(text in ROUNDS for text, _ in SCRIPT)

@@ -23,9 +23,10 @@ from dataclasses import dataclass
 
 import pytest
 
+from harness.allocations import counted, variables_for
 from harness.checks import Difference, holds, LONGEST
 from harness.files import write
-from harness.programs import compiled, SCRIPTS
+from harness.programs import SCRIPTS
 
 pytestmark = pytest.mark.needs("gcc", "plain spool_scripts")
 
@@ -109,9 +110,8 @@ def mend(lines, place, got):
 class Bench:
     """Serves scripts, each in a folder of its own."""
 
-    def __init__(self, program, library, folder):
+    def __init__(self, program, folder):
         self.program = program
-        self.library = library
         self.folder = folder
 
     def case(self, script):
@@ -126,11 +126,10 @@ class Bench:
         """The program's output for the case, with this expected output, and the number of its allocations."""
         write_case(room, replies="".join(f"{line}\n" for line in wanted.replies), account="".join(f"{line}\n" for line in wanted.account))
         log = os.path.join(room, "counted")
-        environment = {"LD_PRELOAD": self.library, "REFUSED": str(refused), "FROM": str(SIZE), "COUNTED": log}
+        environment = {"FROM": str(SIZE), **variables_for(log, refused)}
         words = [self.program, os.path.join(room, "cases")]
         done = subprocess.run(words, capture_output=True, text=True, env=environment, timeout=LONGEST)
-        with open(log, encoding="utf-8", errors="replace") as file:
-            count = int(file.read().splitlines()[-1].split(" ")[0])
+        count, _ = counted(log)
         os.remove(log)
         return done.stdout.split("\n")[0], count
 
@@ -267,7 +266,7 @@ class Trial:
 
 @pytest.fixture
 def trial(memory_room):
-    return Trial(Bench(SCRIPTS, compiled("count_allocations.c", "-shared", "-fPIC"), memory_room))
+    return Trial(Bench(SCRIPTS, memory_room))
 
 
 def tried(task, script, bench, *words):

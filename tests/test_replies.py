@@ -18,7 +18,7 @@ import time
 import pytest
 
 from harness import stored_scripts
-from harness.checks import Difference, LONGEST, same
+from harness.checks import Difference, holds, LONGEST, same
 from harness.programs import SHELL
 
 pytestmark = pytest.mark.needs("spool_shell")
@@ -64,8 +64,7 @@ class Program:
         until = time.monotonic() + LONGEST
         while self.read_on(until):
             pass
-        if time.monotonic() >= until:
-            raise Difference("it does not end with its input")
+        holds("it does not end with its input", time.monotonic() < until)
         return stored_scripts.lines_of(self.text)
 
     def end(self):
@@ -86,13 +85,11 @@ def serve_part(words, part, stored):
                 continue
             number = stored_scripts.replies_to(command, stored)
             got = program.read_lines(number)
-            if got != stored[:number]:
-                raise Difference(f"{text[:60]!r}: not {stored[:number][:2]!r}, but {got[:2]!r}")
+            holds(f"{text[:60]!r}: not {stored[:number][:2]!r}, but {got[:2]!r}", got == stored[:number])
             stored = stored[number:]
         program.process.stdin.close()
         rest = program.read_rest()
-        if rest != stored[: len(rest)]:
-            raise Difference(f"at the end: not {stored[:2]!r}, but {rest[:2]!r}")
+        holds(f"at the end: not {stored[:2]!r}, but {rest[:2]!r}", rest == stored[: len(rest)])
         if program.process.wait(LONGEST):
             raise Difference(f"status {program.process.returncode}: {program.process.stderr.read()[-200:]!r}")
         return stored[len(rest) :]

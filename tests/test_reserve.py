@@ -11,6 +11,7 @@ import threading
 import pytest
 
 from harness.checks import holds, same, until
+from harness.child_folder import Shell
 from harness.programs import SHELL
 from harness.service import Client, PIECE
 
@@ -22,29 +23,25 @@ CREATE = 'create q u "t" 1 50 ""\n'
 LATER = 4_000_000_000
 
 
-class Shell(Client):
+class ShellClient(Client):
     """The client of a shell, which serves one command at a time."""
 
     def __init__(self, *words):
-        pipe = subprocess.PIPE
-        self.process = subprocess.Popen([SHELL, *words], stdin=pipe, stdout=pipe, stderr=pipe)
-        self.clock = threading.Timer(WHOLE, self.process.kill)
+        self.shell = Shell([SHELL, *words])
+        self.clock = threading.Timer(WHOLE, self.shell.child.kill)
         self.clock.start()
 
     def say(self, text):
-        self.process.stdin.write(text if isinstance(text, bytes) else text.encode())
-        self.process.stdin.flush()
+        self.shell.give(text)
 
     def reply(self):
-        line = self.process.stdout.readline()
-        holds(f"a whole reply: {line!r}", line.endswith(b"\n"))
-        return line[:-1].decode()
+        line = self.shell.line()
+        holds(f"a whole reply: {line!r}", line.endswith("\n"))
+        return line[:-1]
 
     def end(self):
         """Ends the input, and waits for the end of the program."""
-        self.process.stdin.close()
-        self.process.stdout.read()
-        same("status", self.process.wait(), 0)
+        same("status", self.shell.finish()[2], 0)
         self.clock.cancel()
 
 
@@ -59,7 +56,7 @@ class ShellSpool:
     def open(self, size=None):
         """Opens the spool for the first time, with this size, or again."""
         self.end()
-        self.shell = Shell("--root", self.folder.at("spool"), "--reserve", *(["--size", str(size)] if size else []))
+        self.shell = ShellClient("--root", self.folder.at("spool"), "--reserve", *(["--size", str(size)] if size else []))
         return self.shell
 
     def end(self):
@@ -187,13 +184,13 @@ def test_without_the_word_all_room_is_taken(folder):
     nothing more that needs room.
     """
     words = ["--root", folder.at("spool")]
-    program = begun(Shell(*words, "--size", "1048576"))
+    program = begun(ShellClient(*words, "--size", "1048576"))
     jobs = fill(program, program.create("q"))
     replies = [program.ask(f"cancel {job}\n") for job in jobs]
     print(f"  {replies.count('error full')} of {len(jobs)} cancels find no room")
     holds("a cancel is refused", "error full" in replies)
     program.end()
-    program = Shell(*words, "--reserve")
+    program = ShellClient(*words, "--reserve")
     same("a new job", program.ask(CREATE), "error full")
     program.end()
 
@@ -233,7 +230,7 @@ def test_other_replies_are_the_same(room):
 def test_a_small_spool_in_memory():
     """A spool in memory has a reserve too: a quarter of its area of 2,048 bytes, which leaves room for no job."""
     for word, wanted in [[], "ok job 1"], [["--reserve"], "error full"]:
-        program = Shell("--size", "4096", *word)
+        program = ShellClient("--size", "4096", *word)
         same("a queue", program.ask("queue q spoolfile:/dev/null application/octet-stream abort-job\n"), "ok")
         same("a job", program.ask(CREATE), wanted)
         program.end()

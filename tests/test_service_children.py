@@ -6,7 +6,7 @@ import pytest
 
 from harness.checks import holds, same, until
 from harness.child_folder import SIDE_END
-from harness.service import Client, is_there, listings, started, TYPE, undelayed, WAITS
+from harness.service import Client, is_there, listings, started, TYPE, undelayed
 
 # A backend that writes its process number and hangs, with a child of its own.
 HANGS = """#!/bin/sh
@@ -32,7 +32,6 @@ echo "ends $PRINTER" >>FOLDER/turns
 
 
 def test_a_job_prints_while_a_slow_one_does(folder):
-    folder.backend("waits", WAITS)
     client = folder.open("slow", scheme="waits")
     folder.queue(client, "fast")
     usual = listings(client)

@@ -44,11 +44,9 @@ def test_a_client_that_never_reads(folder):
         folder.queue(other, f"q{name}")
     client.connection.settimeout(2)
     sent, usual = 0, listings(other)
-    try:
+    with contextlib.suppress(TimeoutError):
         while sent < 40_000_000:
             sent += client.connection.send(b"queues\n" * 1_000)
-    except TimeoutError:
-        pass
     holds(f"it had to wait: {sent}", sent < 2_000_000)
     undelayed("while it does not read", listings(other), usual)
     # It has lost nothing: once it reads, it gets each reply.
@@ -70,11 +68,9 @@ def test_a_client_that_reads_slowly(folder):
     client.connection.setsockopt(socket.SOL_SOCKET, socket.SO_RCVBUF, 4_096)
 
     def ask(stop):
-        try:
+        with contextlib.suppress(OSError):
             while not stop.is_set():
                 client.connection.send(b"queues\n" * 100)
-        except OSError:
-            pass
 
     with meanwhile(ask):
         time.sleep(0.5)

@@ -7,7 +7,7 @@ import pytest
 from harness import power_cuts as cuts
 from harness.checks import holds, same, until
 from harness.programs import SHELL
-from harness.service import Client, meanwhile, patient_client, Submitter, WAITS
+from harness.service import Client, meanwhile, patient_client, Submitter
 
 # ---- kills
 
@@ -23,7 +23,6 @@ def test_killed_and_started_again(folder):
 
 def test_ends_as_its_queue_says(folder):
     """A job whose attempt is lost with the service is tried again or ends as the policy of its queue says."""
-    folder.backend("waits", WAITS)
     client = folder.open()
     policies = {"abort-job": "8 attempt-lost", "retry-job": "9", "retry-current-job": "9", "stop-printer": "3 none"}
     jobs = {}

@@ -5,7 +5,7 @@ import time
 import pytest
 
 from harness.checks import holds, LONGEST, same, until
-from harness.service import Client, ENDS, fields_of, HANGS, is_there, PRINTS, SAYS, TYPE, work_of
+from harness.service import Client, fields_of, is_there, SAYS, TYPE, work_of
 from harness.written_spools import rows, spool
 
 # A scheme without a program.
@@ -32,7 +32,6 @@ def is_now(word, began):
 
 def test_times_of_jobs(folder):
     """A job has the time of each state that it has come to, and the first of its starts. After a restart the earlier times are unknown."""
-    folder.backend("ends", ENDS)
     client = folder.open("q", scheme="ends")
     folder.queue(client, "again", 1, "retry-job", scheme="ends", interval=1)
     client.does("disable q")
@@ -168,7 +167,6 @@ def test_what_attempts_said(folder):
     """A queue shows what the running attempt has said since a stage of it ended, and of attempts that have ended only what lasts. `queues` is
     the command of the engine, and shows everything."""
     folder.two_stages(0, SAYS)
-    folder.backend("prints", PRINTS)
     client = folder.open("q", scheme="prints", target="a/b")
     watcher = Client(folder)
     watcher.does("watch")
@@ -200,7 +198,6 @@ def why(client, job):
 
 def test_why_jobs_wait(folder):
     """`why` has one cause for each job: first those of the job, then those of its queue, then those of the service."""
-    folder.backend("prints", PRINTS)
     folder.backend("fails", "#!/bin/sh\nexit 1\n")
     client = folder.open("q", "other", words=["--children", "1"], scheme="prints")
     folder.queue(client, "again", policy="retry-job", scheme="fails", interval=1000)
@@ -301,7 +298,7 @@ def test_pieces_of_many_jobs(folder):
         client.does("disable lab")
         # After the start it examines the table once.
         until("it is idle", lambda: is_idle(folder))
-        works = [work_for(folder, lambda: piece(client, f" from {count // 2}")), work_for(folder, lambda: piece(client, f" user nobody from {count // 2}"))]
+        works = [folder.work_for(lambda: piece(client, f"{words} from {count // 2}"), 40) for words in ("", " user nobody")]
         print(f"  {count} jobs: a piece {works[0]:.2f} ms of the processor, one without a match {works[1]:.2f} ms")
         took.append(works)
         if count > 1_000:
@@ -318,14 +315,6 @@ def is_idle(folder):
     before = work_of(folder.running.pid)
     time.sleep(0.5)
     return work_of(folder.running.pid) - before < 10_000_000
-
-
-def work_for(folder, what, count=40):
-    """The milliseconds of the processor that the service takes for each of `count` calls."""
-    before = work_of(folder.running.pid)
-    for _ in range(count):
-        what()
-    return (work_of(folder.running.pid) - before) / count / 1e6
 
 
 # ---- tokens
@@ -511,7 +500,6 @@ def test_pieces_and_their_close_at_once(folder):
 
 def test_stops(folder):
     """`stop` cancels a job and terminates its child, and nothing else."""
-    folder.backend("hangs", HANGS)
     client = folder.open("a", "b", policy="retry-job", scheme="hangs")
     jobs = [client.submit(name) for name in ("a", "b", "a")]
     until("two run", lambda: len(folder.read("pids").split()) == 2)
@@ -534,7 +522,6 @@ def test_stops(folder):
 
 def test_log_of_events(folder):
     """The log has a line for each event that matters, with the job, the queue, the user and the cause, so that it answers later what happened."""
-    folder.backend("ends", ENDS)
     client = folder.open("q", scheme="ends")
     folder.queue(client, "fails", 1, "abort-job", scheme="ends")
     folder.queue(client, "late", scheme="ends")
@@ -620,7 +607,6 @@ KINDS = ["submit"] * 8 + ["create", "hold", "release", "cancel", "stop", "end", 
 
 def test_each_change_is_told(folder):
     """What a watching client is sent keeps its copy of the table the same, whatever changes the table."""
-    folder.backend("ends", ENDS)
     folder.two_stages(0)
     client, chance = folder.open(), random.Random(69)
     mirror = Mirror(folder)

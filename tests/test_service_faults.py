@@ -10,9 +10,10 @@ from pathlib import Path
 
 import pytest
 
+from harness.allocations import counted, variables_for
 from harness.checks import Difference, holds, LONGEST, same, until, words_of_faults
-from harness.programs import compiled, path_of, ROOT
-from harness.service import Client, Folder, Gone, KEEPS, kept, patient_client, send_document, Submitter, TYPE
+from harness.programs import path_of, ROOT
+from harness.service import Client, Folder, Gone, kept, patient_client, send_document, Submitter, TYPE
 
 # ---- the name of the spool
 
@@ -35,7 +36,6 @@ def test_names_that_are_taken_away(folder):
     """If the spool's file loses its name, by a removal or a rename, the next change gives the name to a copy. The copy has everything, before
     and after a checkpoint, which changes the half of the journal.
     """
-    folder.backend("keeps", KEEPS)
     client, chance = folder.open("q", scheme="keeps"), random.Random(5)
     disk, documents = folder.at("spool", "spool.disk"), {}
     for turn, take in enumerate((os.remove, lambda path: os.rename(path, folder.at("elsewhere")), os.remove, os.remove)):
@@ -192,8 +192,7 @@ def test_a_device_that_fails_under_a_supervisor(folder):
     same("the turns", sorted(turns[:2]) + turns[2:], ["begins 1 1", "begins 2 1", "begins 1 2", "ends 1 2", ""])
     same("printed", folder.printed(), "again\n")
     same("nothing is left", "earlier" in folder.log(), False)
-    with open(UNIT, encoding="utf-8") as unit:
-        holds("the unit ends the children", "KillMode=control-group\n" in unit.read())
+    holds("the unit ends the children", "KillMode=control-group\n" in Path(UNIT).read_text(encoding="utf-8"))
 
 
 def test_a_device_that_fails_without_a_command(folder):
@@ -333,15 +332,14 @@ def test_refused_allocations(folder):
     """Each of many allocations is refused, one in each run. The service disconnects the client, repeats the tick, counts the child as not
     started, or ends with `spool: memory`; in each case every acknowledged change is kept, and the job is printed in the end.
     """
-    library = compiled("count_allocations.c", "-shared", "-fPIC")
-    first, last = counted(folder, library, 0)
+    first, last = conversation(folder, 0)
     count = 1_000 if folder.is_long else 48
     chance = random.Random(first + last)
     numbers = sorted(chance.sample(range(first + 1, last + 1), min(count, last - first)))
     ends = []
     for number in numbers:
         try:
-            ends.append(counted(folder, library, number))
+            ends.append(conversation(folder, number))
         except Difference as difference:
             raise Difference(f"allocation {number} refused: {difference}") from None
     kinds = {end: ends.count(end) for end in sorted(set(ends))}
@@ -349,22 +347,23 @@ def test_refused_allocations(folder):
     holds("the service usually continues", ends.count("the service ended") < len(ends) / 2)
 
 
-def counted(folder, library, refused):
+def conversation(folder, refused):
     """A conversation during which this allocation is refused. Returns what it did; without one the numbers of the first and the last
     allocation.
     """
     room = Folder(folder.path)
-    room.environment = {"LD_PRELOAD": library, "REFUSED": str(refused), "COUNTED": room.at("counted")}
+    log = room.at("counted")
+    room.environment = variables_for(log, refused)
     try:
         room.start()
-        first = allocations(room)
+        first, _ = counted(log)
         other, submitter = Persistent(room), Persistent(room)
         other.until("queues\n", [])
         submitter.converse()
-        last = allocations(room)
+        last, _ = counted(log)
         other.until("queues\n", [f'queue q 3 accepting {TYPE} retry-job 0 0 none ""'])
-        log = room.log()
-        holds("it is reported once", log.count("out of memory") + log.count("spool: memory") + log.count("not started") <= 1)
+        said = room.log()
+        holds("it is reported once", said.count("out of memory") + said.count("spool: memory") + said.count("not started") <= 1)
     finally:
         room.end()
         room.remove()
@@ -372,13 +371,8 @@ def counted(folder, library, refused):
         return first, last
     has_ended, repeated = other.has_ended or submitter.has_ended, other.repeated + submitter.repeated
     words = {"clients disconnected": "a client was disconnected", "will be retried": "the tick was repeated", "not started": "the stage was repeated"}
-    found = [what for word, what in words.items() if word in log]
+    found = [what for word, what in words.items() if word in said]
     return "the service ended" if has_ended else found[0] if found else "a command was repeated" if repeated else "nothing"
-
-
-def allocations(room):
-    """The number of allocations that were counted."""
-    return int(Path(room.at("counted")).read_text(errors="replace").splitlines()[-1].split(" ", 1)[0])
 
 
 class Persistent(Submitter):

@@ -7,7 +7,7 @@ import pytest
 
 from harness.checks import holds, LONGEST, same, until
 from harness.programs import compiled
-from harness.service import checkpoints, Client, ENDS, WAITS
+from harness.service import checkpoints, Client, WAITS
 
 pytestmark = pytest.mark.needs("gcc")
 
@@ -18,8 +18,8 @@ HOUR = 3_600
 
 
 def watched(folder, **environment):
-    """Lets the service load the library that watches its calls."""
-    library = compiled("watched_calls.c", "-shared", "-fPIC")
+    """Lets the service load the library that watches its calls and changes its clocks."""
+    library = compiled("fast_clock.c", "-shared", "-fPIC")
     folder.environment = {"LD_PRELOAD": library, **environment}
 
 
@@ -207,7 +207,6 @@ def test_descriptors_for_a_start(folder):
 def test_descriptors_are_tested_once(folder):
     """The starts of a tick share a test of the descriptors, for four starts and some for clients."""
     watched(folder, WATCHED_CALLS=folder.at("calls"))
-    folder.backend("ends", ENDS)
     names = [f"q{number}" for number in range(MOST_STARTS)]
     client = folder.open(*names, scheme="ends")
     found = []

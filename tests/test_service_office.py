@@ -9,7 +9,7 @@ import pytest
 
 from harness.checks import at_once, Difference, holds, LONGEST, same, until
 from harness.programs import ADMIN, compiled, is_sanitized
-from harness.service import checkpoints, Client, moment_of, now_of, patient_client, TYPE, WAITS
+from harness.service import checkpoints, Client, moment_of, now_of, patient_client, TYPE
 
 # ---- the clock and the maintenance
 
@@ -93,7 +93,6 @@ def test_old_jobs_are_purged(folder):
 
 def test_a_job_whose_child_runs_is_not_purged(folder):
     """The service purges a canceled job only when its child has ended, and the other jobs meanwhile."""
-    folder.backend("waits", WAITS)
     client = folder.open("slow", words=["--keep", "0"], scheme="waits")
     folder.queue(client, "q")
     job = client.submit("slow")

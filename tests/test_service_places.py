@@ -181,8 +181,7 @@ def test_operators_have_no_share(folder, people):
 def test_as_many_places_as_given(folder):
     """`--clients N`: the next client gets `error busy`. The time of a listing with 1,000 clients is printed."""
     soft, hard = resource.getrlimit(resource.RLIMIT_NOFILE)
-    if hard < 2_100:
-        raise Difference("it needs 2,100 descriptors")
+    holds("it needs 2,100 descriptors", hard >= 2_100)
     resource.setrlimit(resource.RLIMIT_NOFILE, (2_100, hard))
     try:
         usual = []

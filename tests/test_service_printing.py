@@ -8,12 +8,11 @@ import time
 import pytest
 
 from harness.checks import Difference, holds, same, until
-from harness.service import Client, is_there, KEEPS, kept, send_piece, started, TYPE
+from harness.service import Client, is_there, kept, send_piece, started, TYPE
 
 def test_large_documents(folder):
     """Two documents above 1 MiB, sent in turn by two clients, are printed whole: by a backend, and by a filter and a backend."""
     folder.two_stages(0)
-    folder.backend("keeps", KEEPS)
     folder.start()
     clients, chance = [Client(folder), Client(folder)], random.Random(20)
     folder.queue(clients[0], "q", scheme="keeps")

@@ -7,7 +7,7 @@ with something on it. The first try that succeeds is compared with the row. So i
 
 The backends print to a socket, to a private CUPS (harness/cups.py), and to a terminal in place of a device. The backend `socket` also prints a
 filter's output to a printer that sends data back; the printer must receive the job, byte for byte. Then the chains of examples/office are
-tried, by the service, or by the shell if that is not built. No filter or backend may be installed that the page does not have.
+tried, by the service. No filter or backend may be installed that the page does not have.
 """
 import os
 import re
@@ -247,6 +247,7 @@ def test_chains_in_cups(place):
     stock_chains.ask_cups(place, ROWS)
 
 
+@pytest.mark.needs("spool_service")
 @pytest.mark.parametrize("kind", stock_chains.KINDS)
 @reports_all
 def test_chains(place, kind):

@@ -18,7 +18,7 @@ from dataclasses import dataclass, replace
 
 import pytest
 
-from harness.checks import Difference, LONGEST
+from harness.checks import holds, LONGEST
 from harness.files import write
 from harness.journal import clock, close, image, Job, NEWEST, purge, Queue, send, stage, start
 from harness.programs import SCRIPTS
@@ -232,8 +232,7 @@ def calls_of_checkpoint(folder, version):
         write_case(room, name, version, f"{first + calls} {first + calls}\n", done, "")
         write(os.path.join(room, f"{name}.script"), script)
     passed, _ = served(room)
-    if len(passed) != APPEND:
-        raise Difference(f"{len(passed)} numbers of calls for a checkpoint, in {room}")
+    holds(f"{len(passed)} numbers of calls for a checkpoint, in {room}", len(passed) == APPEND)
     return int(passed[0][1:])
 
 
@@ -250,5 +249,4 @@ def test_each_call_of_the_disk_fails(version, room):
         for kind, before in (("stop", ""), ("once", "once ")):
             write_case(cases, f"{kind}{call:03}", version, f"{before}{call} {call}\n", done, after[len(done.events)])
     passed, others = served(cases)
-    if len(others) != 1 or len(passed) != 2 * (last + 1 - OPENING):
-        raise Difference(f"{others[0]}, in {cases}")
+    holds(f"{others[0]}, in {cases}", len(others) == 1 and len(passed) == 2 * (last + 1 - OPENING))

@@ -23,6 +23,7 @@ from pathlib import Path
 import pytest
 
 from harness.checks import compare, LONGEST, reports_all, same, until
+from harness.files import Place
 from harness.printers import counting, Printer, reset_after, take
 from harness.programs import is_sanitized, ROOT, TOOLS
 from harness.service import Client
@@ -45,28 +46,16 @@ MANY = 50_000_000 // SHARE
 RAN = '#!/bin/sh\ntouch "$0.ran"\n'
 
 
-class Chain:
+class Chain(Place):
     """A folder with the programs and the file of a chain."""
 
     def __init__(self, path):
-        self.path = path
+        super().__init__(path)
         os.makedirs(path, exist_ok=True)
         self.lines = []
 
-    def at(self, name):
-        return os.path.join(self.path, name)
-
-    def write(self, name, text, mode=0o644):
-        with open(self.at(name), "w", errors="surrogateescape") as file:
-            file.write(text)
-        os.chmod(self.at(name), mode)
-        return self.at(name)
-
     def read(self, name):
-        try:
-            return Path(self.at(name)).read_text()
-        except FileNotFoundError:
-            return None
+        return Path(self.at(name)).read_text() if self.has(name) else None
 
     def filter(self, name, text, word=""):
         self.lines.append(f"filter {name} {self.write(name, text, 0o755)} {word}".rstrip())
@@ -244,7 +233,7 @@ def test_files_that_are_no_chain(it):
     for name, text in NO_CHAIN.items():
         compare(f"a chain with {name}", through(it.write("chain", text.replace("PROGRAM", program)), *JOB), wanted)
     compare("the chain /dev/null", through("/dev/null", *JOB), wanted)
-    code = it.write("code", "\udcff")
+    code = it.write("code", b"\xff")
     for path, reason in ((it.at("none"), NO_FILE), (it.path, "Is a directory"), ("", NO_FILE), (code, "stream did not contain valid UTF-8")):
         compare(f"the chain {path}", through(path, *JOB), (b"", f"ERROR: cannot read {path}: {reason}\n", 4))
     it.backend("a", "#!/bin/sh\n")

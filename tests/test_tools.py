@@ -6,13 +6,12 @@ packets on the side channel; printers that take a document fast or slowly, read 
 it, send data or do not exist, with each value of `waiteof` and `afterlast`; and arguments that are refused, which write nothing. With
 --long the 20 turns of `meet` and the 90 seconds of `appsocket` are tested too.
 """
+import contextlib
 import os
 import re
 import resource
-import signal
 import socket
 import subprocess
-import threading
 import time
 
 import pytest
@@ -20,7 +19,7 @@ import pytest
 from harness.checks import compare, LONGEST, reports_all, until
 from harness.files import read, write
 from harness.printers import Printer, reset, reset_after, take
-from harness.programs import TOOLS
+from harness.programs import limited, TOOLS
 
 pytestmark = pytest.mark.needs("spool_tools")
 
@@ -68,11 +67,8 @@ def texts():
 
 def run_with_room(size, words, path):
     """The same for an output that is a new file of at most this size."""
-    def limit():
-        signal.signal(signal.SIGXFSZ, signal.SIG_IGN)
-        resource.setrlimit(resource.RLIMIT_FSIZE, (size, size))
-
     with open(path, "wb") as output:
+        limit = limited(resource.RLIMIT_FSIZE, size)
         ended = subprocess.run([TOOLS, *words], stdout=output, stderr=subprocess.PIPE, timeout=LONGEST, preexec_fn=limit)
     return read(path), ended.stderr, ended.returncode
 
@@ -117,11 +113,7 @@ def test_filters(room):
 @reports_all
 def test_bounded(room):
     """A document of 64 MiB and three copies of it, in 32 MiB of memory."""
-    large = write(os.path.join(room, "large"), b"0123456789abcde\n" * (4 << 20))
-
-    def limit():
-        resource.setrlimit(resource.RLIMIT_AS, (32 << 20, 32 << 20))
-
+    large, limit = write(os.path.join(room, "large"), b"0123456789abcde\n" * (4 << 20)), limited(resource.RLIMIT_AS, 32 << 20)
     with open(large, "rb") as given:
         ended = subprocess.run([TOOLS, "texttoprn", *JOB], stdin=given, stdout=subprocess.DEVNULL,
                                stderr=subprocess.PIPE, timeout=LONGEST, preexec_fn=limit)
@@ -297,39 +289,21 @@ def test_meet(room, is_long):
         compare("no partner in 20 turns", (got, 18.9 <= time.monotonic() - began < 40), ((b"", b"", 1), True))
 
 
-class Server(threading.Thread):
-    """Accepts one connection, stores the data, and answers the first four bytes."""
+def answering(answer):
+    """A side channel that answers the first four bytes, or closes the connection. It stores what it has got."""
+    def serve(connection):
+        got = take(connection, 4)
+        if len(got) < 4 or answer is None:
+            return got
+        # The tool may end without reading all of the answer.
+        with contextlib.suppress(OSError):
+            for byte in answer:
+                connection.send(bytes([byte]))
+            connection.shutdown(socket.SHUT_WR)
+            got += take(connection)
+        return got
 
-    def __init__(self, path, answer):
-        super().__init__(daemon=True)
-        self.socket = socket.socket(socket.AF_UNIX)
-        self.socket.bind(path)
-        self.socket.listen()
-        self.answer, self.got = answer, b""
-        self.start()
-
-    def run(self):
-        connection, _ = self.socket.accept()
-        self.socket.close()
-        with connection:
-            try:
-                self.serve(connection)
-            except OSError:
-                pass  # the tool ended without reading all of the answer
-
-    def serve(self, connection):
-        while len(self.got) < 4:
-            piece = connection.recv(100)
-            if not piece:
-                return
-            self.got += piece
-        if self.answer is None:
-            return
-        for byte in self.answer:
-            connection.send(bytes([byte]))
-        connection.shutdown(socket.SHUT_WR)
-        while piece := connection.recv(100):
-            self.got += piece
+    return serve
 
 
 @reports_all
@@ -351,10 +325,9 @@ def test_side(room):
         ("a socket that closes", None, 1, None),
     )):
         path = os.path.join(room, f"side-{number}")
-        server = Server(path, answer)
+        server = Printer(answering(answer), path=path)
         got = run(["sideask", *JOB], b"unread", uri=uri, side=path)
-        server.join(LONGEST)
-        compare(f"sideask with {name}", (got, server.got, read(out)), ((b"", b"", status), b"\4\0\0\0", wanted))
+        compare(f"sideask with {name}", (got, server.all(), read(out)), ((b"", b"", status), [b"\4\0\0\0"], wanted))
         if os.path.exists(out):
             os.remove(out)
     document = write(os.path.join(room, "document"), b"")
@@ -362,13 +335,11 @@ def test_side(room):
     for name, path in (("no variable", None), ("an empty variable", ""), ("no socket", none), ("a file", document)):
         compare(f"sideask with {name}", (run(["sideask", *JOB], uri=uri, side=path), read(out)), ((b"", b"", 1), None))
     path = os.path.join(room, "side-full")
-    server = Server(path, b"\4\1\0\1A")
+    Printer(answering(b"\4\1\0\1A"), path=path)
     compare("sideask on a full disk", run(["sideask", *JOB], uri="sideask:/dev/full", side=path), (b"", b"", 1))
     path = os.path.join(room, "end")
-    server = Server(path, b"")
-    got = run(["side-end", path])
-    server.join(LONGEST)
-    compare("side-end", (got, server.got), ((b"", b"", 0), b"\xff\0\0\0"))
+    server = Printer(answering(b""), path=path)
+    compare("side-end", (run(["side-end", path]), server.all()), ((b"", b"", 0), [b"\xff\0\0\0"]))
     for path in (os.path.join(room, "end"), os.path.join(room, "none"), "", "x" * 200):
         compare(f"side-end {path:.20}", run(["side-end", path]), (b"", b"", 1))
 

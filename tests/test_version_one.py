@@ -27,7 +27,7 @@ from pathlib import Path
 import pytest
 
 from harness import journal, spool_model as model, stories
-from harness.checks import Difference, same
+from harness.checks import holds, same
 from harness.programs import SHELL, TESTS
 
 pytestmark = pytest.mark.needs("spool_shell")
@@ -215,8 +215,7 @@ def made_by(program, folder):
         running.stdin.write(command)
         running.stdin.flush()
         reply = running.stdout.readline()
-        if not reply.startswith(b"ok"):
-            raise Difference(f"{command!r} got the reply {reply!r}")
+        holds(f"{command!r} got the reply {reply!r}", reply.startswith(b"ok"))
     running.send_signal(signal.SIGKILL)
     running.wait()
     return spool.content()

@@ -20,6 +20,7 @@ import subprocess
 import sys
 import tempfile
 
+from harness.files import write
 from harness.people import made_users
 from harness.programs import path_of
 
@@ -109,9 +110,7 @@ def tree(folder, programs, kinds):
         text = text.replace("PROGRAM", programs[name])
         for word, value in words.items():
             text = text.replace(f'"{word}"', repr(value))
-        with open(out[name], "w") as file:
-            file.write(text)
-        os.chmod(out[name], 0o755)
+        write(out[name], text, 0o755)
 
 
 def main(arguments):

@@ -148,7 +148,8 @@ class Trial:
         same(f"{what}: the end of the next one, {done}", done == (0, "", "") or done in self.again and (was_changed or done[2] == TAKEN), True)
         self.is_done(place, what)
 
-    def is_killed_at_each_call(self):
+    def is_killed(self):
+        """At each call."""
         def killed(call):
             place = self.make()
             (status, _, _), _ = traced(self.folder, self.words(place), f"{call.name}:signal=KILL:when={call.number}")
@@ -158,8 +159,8 @@ class Trial:
 
         side_by_side(killed, self.calls())
 
-    def fails_at_each_call(self):
-        """From the first call on the spool on."""
+    def fails(self):
+        """At each call from the first one on the spool on."""
         def failing(call):
             place, what = self.make(), f"{call} failed"
             (status, shown, errors), _ = traced(self.folder, self.words(place), f"{call.name}:error={ERRORS[call.name]}:when={call.number}")

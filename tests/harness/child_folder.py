@@ -8,6 +8,7 @@ import tempfile
 from pathlib import Path
 
 from harness.checks import LONGEST, same, until, words_of_faults
+from harness.files import Place
 from harness.large_run import pieces_of
 from harness.programs import SHELL
 
@@ -61,9 +62,9 @@ LOG_LINE = re.compile(r"spool: (job \d+ attempt \d+ stage \d+( \S+)?|filter \S+|
 class Shell:
     """A running shell, which gets commands one by one."""
 
-    def __init__(self, words, folder):
+    def __init__(self, words, folder=None, env=None):
         pipe = subprocess.PIPE
-        self.child = subprocess.Popen(words, cwd=folder, stdin=pipe, stdout=pipe, stderr=pipe)
+        self.child = subprocess.Popen(words, cwd=folder, env=env, stdin=pipe, stdout=pipe, stderr=pipe)
 
     def give(self, text):
         self.child.stdin.write(text if isinstance(text, bytes) else text.encode())
@@ -78,6 +79,12 @@ class Shell:
         self.child.kill()
         return self.end()
 
+    def finish(self):
+        """Ends its input. Returns the output that was not read until then, the error messages, and its status."""
+        with contextlib.suppress(BrokenPipeError):
+            self.child.stdin.close()
+        return (*self.end(), self.child.returncode)
+
     def end(self):
         self.child.wait()
         left = self.child.stdout.read().decode(), self.child.stderr.read().decode()
@@ -87,24 +94,17 @@ class Shell:
         return left
 
 
-class Folder:
+class Folder(Place):
     """The folder of a test: the files of the shell, its programs, and their reports."""
 
     def __init__(self):
-        self.path = tempfile.mkdtemp(prefix="spool-children-")
+        super().__init__(tempfile.mkdtemp(prefix="spool-children-"))
         self.root = "spool"
         self.size = 16_777_216
         os.mkdir(self.at(self.root))
         self.lines = []
         self.write("types", TYPES)
         self.write("convs", CONVS)
-
-    def at(self, *names):
-        return os.path.join(self.path, *names)
-
-    def write(self, name, text, mode=0o644):
-        Path(self.at(name)).write_text(text)
-        os.chmod(self.at(name), mode)
 
     def read(self, name):
         return Path(self.at(name)).read_bytes()
@@ -180,11 +180,11 @@ class Folder:
         return sorted(name for name in os.listdir(self.at(self.root)) if name != LOCK)
 
 
-def printed(queue, uri, target="a/a", policy="abort-job", number=1, document=b"", title='""', user="ann", options='""', copies=1):
+def printed(queue, uri, target="a/a", policy="abort-job", number=1, document=b"", title='""', user="ann", options='""', copies=1, name="page.txt"):
     """The script that prints a document on a queue of its own: with the target type b/b through the filter `first`."""
     head = f"queue {queue} {uri} {target} {policy}\ncreate {queue} {user} {title} {copies} 50 {options}\n"
     pieces = b"".join(f"send {number} {len(piece)}\n".encode() + piece + b"\n" for piece in pieces_of(document))
-    return head.encode() + pieces + f"close {number} page.txt\n".encode()
+    return head.encode() + pieces + f"close {number} {name}\n".encode()
 
 
 def states(replies):

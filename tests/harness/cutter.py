@@ -1,4 +1,5 @@
 """A proxy that cuts a connection at a byte."""
+import contextlib
 import select
 import socket
 import struct
@@ -42,14 +43,12 @@ class Cutter:
 
     def serve(self, client):
         """Passes the bytes of a client and of its server on, until an end or the cut."""
-        try:
+        with contextlib.suppress(OSError):
             with self.connect() as server:
                 ways = {client: (REQUESTS, server), server: (REPLIES, client)}
                 while all(self.passes(source, *ways[source]) for source in select.select(list(ways), [], [])[0]):
                     pass
                 self.note_end(client, server)
-        except OSError:
-            pass
         client.close()
         self.clients.remove(client)
 
@@ -79,8 +78,6 @@ class Cutter:
     def cut_all(self):
         """Cuts each connection now, and waits for that."""
         for client in list(self.clients):
-            try:
+            with contextlib.suppress(OSError):
                 client.shutdown(socket.SHUT_RDWR)
-            except OSError:
-                pass
         until("the ends of the connections", lambda: not self.clients)

@@ -15,7 +15,7 @@ import tempfile
 import time
 from pathlib import Path
 
-from harness.checks import Difference, LONGEST, until
+from harness.checks import holds, LONGEST, until
 
 # The bricks' address, which is reached only within these namespaces: the system refuses bricks with the address 127.0.0.1.
 BRICKS = "10.77.0.1"
@@ -56,8 +56,7 @@ def run(*words, within=None):
     """Runs a program that must succeed, and returns its output. It may run in the network of a host."""
     words = [*(["nsenter", f"--net=/proc/{within}/ns/net"] if within else []), *words]
     done = subprocess.run(words, capture_output=True, text=True, timeout=LONGEST)
-    if done.returncode:
-        raise Difference(f"{' '.join(words)} ended with {done.returncode}: {done.stdout}{done.stderr}")
+    holds(f"{' '.join(words)} ended with {done.returncode}: {done.stdout}{done.stderr}", not done.returncode)
     return done.stdout
 
 
@@ -180,8 +179,7 @@ class Volume:
         """Waits until each brick has all changes, and the half-finished writes of a dead client are resolved."""
         end = time.time() + 180
         while not (self.answers("volume", "heal", NAME) and self.is_whole()):
-            if end < time.time():
-                raise Difference("the volume is not healed within 180 s")
+            holds("the volume is not healed within 180 s", end >= time.time())
             time.sleep(0.5)
 
     def is_whole(self):

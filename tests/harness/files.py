@@ -1,4 +1,5 @@
-"""Files of tests, as bytes."""
+"""Files and folders of tests."""
+import os
 from pathlib import Path
 
 
@@ -16,3 +17,16 @@ def write(path, data, mode=None):
     if mode is not None:
         Path(path).chmod(mode)
     return path
+
+
+class Place:
+    """A folder, and the files in it by their names."""
+
+    def __init__(self, path):
+        self.path = path
+
+    def at(self, *names):
+        return os.path.join(self.path, *names)
+
+    def write(self, name, data, mode=0o644):
+        return write(self.at(name), data, mode)

@@ -8,8 +8,9 @@ import subprocess
 import threading
 import time
 
-from harness.checks import Difference, LONGEST, same
-from harness.programs import compiled, FRONT
+from harness.allocations import counted, variables_for
+from harness.checks import Difference, holds, LONGEST, same
+from harness.programs import FRONT
 from harness.service import listening
 
 # The names under which the program is run.
@@ -104,12 +105,12 @@ def number_of(text):
 
 def each_refused(folder):
     """The number and the variables of a run in which this allocation is refused, as long as one was refused."""
-    library, counted = compiled("count_allocations.c", "-shared", "-fPIC"), folder.at("counted")
+    log = folder.at("counted")
     for refused in itertools.count(1):
-        yield refused, {"LD_PRELOAD": library, "REFUSED": str(refused), "COUNTED": counted}
-        if " refused " not in folder.read("counted"):
+        yield refused, variables_for(log, refused)
+        if not counted(log)[1]:
             return
-        os.remove(counted)
+        os.remove(log)
 
 
 class Played:
@@ -154,8 +155,7 @@ class Played:
             while said.startswith(self.UNKNOWN) and not said.startswith(wanted):
                 line.sendall(b"error syntax\n")
                 said = stream.readline().decode()
-            if not said.startswith(wanted):
-                raise Difference(f"said {said!r} in place of {wanted!r}")
+            holds(f"said {said!r} in place of {wanted!r}", said.startswith(wanted))
             self.heard.append(said.strip())
             if said.startswith("create"):
                 self.token = said.split("submission=")[1].split('"')[0]
@@ -167,12 +167,9 @@ class Played:
             line.sendall(reply.replace("TOKEN", self.token).encode())
         # No more commands are expected.
         rest = stream.read()
-        if rest:
-            raise Difference(f"said {rest[:100]!r} after the last reply")
+        holds(f"said {rest[:100]!r} after the last reply", not rest)
 
     def end(self):
         self.thread.join(LONGEST)
-        if self.fault:
-            raise Difference(f"the simulated service: {self.fault!r}")
-        if self.thread.is_alive():
-            raise Difference("not all expected commands were sent")
+        holds(f"the simulated service: {self.fault!r}", not self.fault)
+        holds("not all expected commands were sent", not self.thread.is_alive())

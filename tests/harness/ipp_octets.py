@@ -27,6 +27,11 @@ class Lacking(Exception):
     """The octets end within a message."""
 
 
+def demand(holds):
+    if not holds:
+        raise Fault
+
+
 class Octets:
     def __init__(self, octets):
         self.octets = octets
@@ -41,11 +46,9 @@ class Octets:
     def number(self, lengths):
         """A length of two octets. Each octet is examined as it arrives."""
         high = self.take(1)[0]
-        if high not in range(lengths[0] // 256, lengths[-1] // 256 + 1):
-            raise Fault
+        demand(high in range(lengths[0] // 256, lengths[-1] // 256 + 1))
         length = high * 256 + self.take(1)[0]
-        if length not in lengths:
-            raise Fault
+        demand(length in lengths)
         return length
 
 
@@ -60,8 +63,7 @@ def localized(octets, most):
     """A natural language and a text, each after its length."""
     first = int.from_bytes(octets[:2], "big")
     second = int.from_bytes(octets[2 + first : 4 + first], "big")
-    if len(octets) != 4 + first + second or first > 63 or second > most:
-        raise Fault
+    demand(len(octets) == 4 + first + second and first <= 63 and second <= most)
     text(octets[2 : 2 + first], True)
     text(octets[4 + first :], False)
 
@@ -70,8 +72,8 @@ def value(tag, octets):
     data = octets.take(octets.number(LENGTHS.get(tag, range(32_768))))
     if tag in ASCII or tag in UTF_8:
         text(data, tag in ASCII)
-    elif tag == 0x22 and data[0] > 1:
-        raise Fault
+    elif tag == 0x22:
+        demand(data[0] <= 1)
     elif tag == 0x35:
         localized(data, 1_023)
     elif tag == 0x36:
@@ -86,20 +88,14 @@ class Collections:
 
     def add(self, tag):
         inner = self.awaits[-1] if self.awaits else None
+        demand(inner in ("member", "any") if tag in (MEMBER, END) else inner != "member")
         if tag == MEMBER:
-            if inner not in ("member", "any"):
-                raise Fault
             self.awaits[-1] = "value"
             return
         if tag == END:
-            if inner not in ("member", "any"):
-                raise Fault
             self.awaits.pop()
-        elif inner == "member":
-            raise Fault
         if tag == BEGIN:
-            if len(self.awaits) == DEEPEST:
-                raise Fault
+            demand(len(self.awaits) < DEEPEST)
             self.awaits.append("member")
         elif self.awaits:
             self.awaits[-1] = "any"
@@ -112,26 +108,20 @@ def message(octets):
     while True:
         tag = octets.take(1)[0]
         if tag < 0x10:
-            if collections is not None and collections.awaits:
-                raise Fault
+            demand(collections is None or not collections.awaits)
             if tag == 3:
-                if values > MOST_VALUES:
-                    raise Fault
+                demand(values <= MOST_VALUES)
                 return octets.at
-            if tag not in GROUPS:
-                raise Fault
+            demand(tag in GROUPS)
             is_group, collections = True, None
             continue
-        if not is_group:
-            raise Fault
+        demand(is_group)
         after = Collections(collections)
         after.add(tag)
         length = octets.number(range(256))
-        if length == 0 and collections is None:
-            raise Fault
+        demand(length > 0 or collections is not None)
         if length > 0:
-            if collections is not None and collections.awaits:
-                raise Fault
+            demand(collections is None or not collections.awaits)
             text(octets.take(length), True)
         collections = after
         value(tag, octets)

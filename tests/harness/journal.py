@@ -1,4 +1,4 @@
-"""The bytes of a spool: encodes events, rows, records and areas, and decodes the file of a spool.
+"""The bytes of a spool: encodes events, rows, records and areas, and decodes the records of a file. harness/spool_model.py decodes rows.
 
 This is a second encoder, written from the tables of codes and not from the program's code, so that the tests can create a spool's file with
 any bytes and read the file that the program left. Numbers are big-endian. A text is its length in 2 bytes, then its bytes. A list of texts
@@ -340,78 +340,3 @@ def current(file):
 
 def current_version(file):
     return version_of(current_half(file))
-
-
-# ---- decoded rows
-
-class Reader:
-    """Decodes the fields of a payload in order."""
-
-    def __init__(self, payload):
-        self.rest = payload
-
-    def take(self, count):
-        taken, self.rest = self.rest[:count], self.rest[count:]
-        assert len(taken) == count, "a payload is cut"
-        return taken
-
-    def number(self, width):
-        return int.from_bytes(self.take(width), "big")
-
-    def text(self):
-        return self.take(self.number(2)).decode()
-
-    def texts(self, width):
-        return tuple(self.text() for _ in range(self.number(width)))
-
-    def hold(self):
-        kind = self.take(1)
-        return kind + self.take({0: 0, 1: 1, 2: 8}[kind[0]])
-
-    def phase(self):
-        kind = self.take(1)
-        if kind[0] == 0:
-            return kind + self.hold()
-        if kind[0] == 1:
-            return kind + self.hold() + self.take(9)
-        return kind + self.take({2: 1, 3: 0, 4: 0, 5: 1}[kind[0]])
-
-    def moment(self):
-        """A moment, or None if there is none."""
-        return self.number(8) if self.number(1) else None
-
-
-def read_queue(reader):
-    words = [reader.text() for _ in range(3)]
-    numbers = [POLICIES[reader.number(1)], reader.number(4), reader.number(2)]
-    notes = [reader.text() for _ in range(2)]
-    state = [bool(reader.number(1)), bool(reader.number(1)), reader.text()]
-    reasons = reader.texts(1)
-    return Queue(*words, *numbers, *notes, *state, reasons, tuple((reader.text(), reader.text()) for _ in range(reader.number(1))))
-
-
-def read_job(reader, version):
-    words = [reader.number(4)] + [reader.text() for _ in range(3)]
-    wishes = [reader.number(2), reader.number(1), reader.text()]
-    media = reader.text() if reader.number(1) else None
-    chain = [media, reader.texts(1)]
-    state = [reader.number(4) for _ in range(3)] + [reader.phase()]
-    return Job(*words, *wishes, *chain, *state, None if version == 1 else reader.moment())
-
-
-def read_row(payload, version=NEWEST):
-    """The row of a listing in a payload, for an area of this version."""
-    reader = Reader(payload)
-    kind = reader.number(1)
-    if kind == 0x40:
-        row = Head(reader.number(4), reader.number(8))
-    elif kind == 0x41:
-        row = read_queue(reader)
-    elif kind == 0x42:
-        row = read_job(reader, version)
-    elif kind == 0x43:
-        row = Piece(reader.number(4), reader.take(reader.number(4)))
-    else:
-        raise AssertionError(f"no row begins with {kind:#x}")
-    assert not reader.rest, "bytes are left over"
-    return row

@@ -4,6 +4,7 @@ The peak memory of a program is the `ru_maxrss` that is returned at its end (get
 starts a program as the program's own, so a small shell starts each program and ends at once. Then this process becomes its parent
 (PR_SET_CHILD_SUBREAPER of prctl(2)) and waits for it.
 """
+import contextlib
 import ctypes
 import itertools
 import os
@@ -16,6 +17,7 @@ from pathlib import Path
 
 import pytest
 
+from harness import files
 from harness.checks import quoted, same, same_lines
 from harness.programs import is_sanitized, SHELL, TOOLS
 
@@ -65,14 +67,12 @@ class Ran:
 
 def write_pieces(file, pieces):
     """Writes each piece by calls of its own, until the reader has closed the pipe."""
-    try:
+    with contextlib.suppress(BrokenPipeError):
         with file:
             for piece in pieces:
                 left = memoryview(piece)
                 while left:
                     left = left[file.write(left) :]
-    except BrokenPipeError:
-        pass
 
 
 def read_into(file, found):
@@ -145,27 +145,26 @@ class Script:
             size += len(piece)
             self.send(number, piece, f"ok bytes {size}")
 
+    def submit(self, number, queue, document=b"", title="", name="page", closed=f"{TYPE} stages 1"):
+        """Creates a job, sends its document, and closes it with this type and number of stages."""
+        self.ask(f'create {queue} ann {quoted(title)} 1 50 ""', f"ok job {number}")
+        self.document(number, document)
+        self.ask(f"close {number} {name}", f"ok type {closed}")
 
-class Place:
+
+class Place(files.Place):
     """The folder of a part and of its programs, which run in an address space of `limit` KiB."""
 
     def __init__(self, limit=None):
         self.limit = limit
         # The peak memory of a program so far, in KiB.
         self.memory = 0
-        self.folder = tempfile.mkdtemp(prefix="spool-large-", dir=roomy_folder())
+        super().__init__(tempfile.mkdtemp(prefix="spool-large-", dir=roomy_folder()))
         os.mkdir(self.at("spool"))
         self.lines = []
 
-    def at(self, *names):
-        return os.path.join(self.folder, *names)
-
-    def write(self, name, data):
-        Path(self.at(name)).write_bytes(data)
-
     def read(self, name):
         return Path(self.at(name)).read_bytes()
-
 
     def fresh_spool(self):
         """Removes the spool."""
@@ -181,11 +180,8 @@ class Place:
         self.write(f"{kind}-{name}", text.encode())
         self.lines.append(f"{kind} {name} /bin/sh {self.at(f'{kind}-{name}')}")
 
-    def list_programs(self):
-        self.write("programs", "".join(line + "\n" for line in self.lines).encode())
-
     def run(self, words, pieces=()):
-        ran = run(words, self.folder, pieces, self.limit, LONGEST)
+        ran = run(words, self.path, pieces, self.limit, LONGEST)
         self.memory = max(self.memory, ran.memory)
         return ran
 
@@ -202,6 +198,8 @@ class Place:
 
     def print_all(self, script, *words, **how):
         """Serves a script with the programs and files of this folder."""
+        if self.lines:
+            self.write("programs", "".join(f"{line}\n" for line in self.lines))
         there = [name for name in ("types", "convs", "programs") if os.path.exists(self.at(name))]
         files = [word for name in there for word in (f"--{name}", name)]
         return self.serve(script, *files, *words, **how)

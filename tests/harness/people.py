@@ -24,19 +24,24 @@ NAMELESS, NOBODY = 54_321, 65_534
 User = collections.namedtuple("User", "name uid gid")
 
 
+def remove_users(names):
+    """Removes users of the system and their processes, if there are any."""
+    for name in names:
+        subprocess.run(["pkill", "-KILL", "-u", name], capture_output=True, check=False)
+        subprocess.run(["userdel", name], capture_output=True, check=False)
+
+
 @contextlib.contextmanager
 def made_users(*names):
     """Makes these users of the system, each with a group of its own. At the end of the `with` they and their processes are gone."""
-    made = []
+    # A killed run may have left some.
+    remove_users(names)
     try:
         for name in names:
             run("useradd", "--system", "--user-group", "--no-create-home", name)
-            made.append(name)
         yield
     finally:
-        for name in made:
-            subprocess.run(["pkill", "-KILL", "-u", name], capture_output=True, check=False)
-            subprocess.run(["userdel", name], capture_output=True, check=False)
+        remove_users(names)
 
 
 class People:
@@ -67,8 +72,7 @@ class People:
         self.remove()
 
     def remove(self):
-        for user in self.users:
-            subprocess.run(["userdel", user.name], capture_output=True, check=False)
+        remove_users(user.name for user in self.users)
         subprocess.run(["groupdel", self.group], capture_output=True, check=False)
         if hasattr(self, "place"):
             shutil.rmtree(self.place, ignore_errors=True)

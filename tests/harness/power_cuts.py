@@ -23,7 +23,7 @@ from dataclasses import dataclass
 from pathlib import Path
 
 from harness import journal, real_children, spool_model as model, traces
-from harness.checks import Difference, LONGEST
+from harness.checks import Difference, holds, LONGEST
 
 SIZE = 16_384
 NAME = "spool.disk"
@@ -253,7 +253,7 @@ def moments_of(steps, first):
         elif step.kind == "folder":
             names = names[-1:]
         table = table_of(now)
-        if table and rows_and_version(table) != rows_and_version(tables[-1]):
+        if table and table.contents() != tables[-1].contents():
             tables = [*tables, table]
         if step.kind in ("reply", "start"):
             tables = tables[-1:]
@@ -261,11 +261,6 @@ def moments_of(steps, first):
         if step.kind == "start":
             started |= {step.key}
         yield Moment(kept, written, names, tables, started, ended)
-
-
-def rows_and_version(table):
-    """A table's rows, and the version of its area."""
-    return table.version, table.listing()
 
 
 def table_of(file):
@@ -393,8 +388,7 @@ def check(run_folder, moment, chance, is_printed):
         wanted = " or ".join(str([OF_VERSION[table.version], *table.jobs_reply()]) for table in moment.tables)
         raise Difference(f"it lists {lines} {errors}, not {wanted}")
     payloads, _ = journal.current(Path(root, NAME).read_bytes())
-    if payloads not in [table.listing() for table in fitting]:
-        raise Difference("a checkpoint lists other rows")
+    holds("a checkpoint lists other rows", payloads in [table.listing() for table in fitting])
     if is_printed:
         check_printed(run_folder, root, moment)
 
@@ -405,8 +399,7 @@ def check_printed(run_folder, root, moment):
     _, errors = run_folder.serve(root, "clock 3000\ndrain 3\nclock 4000\ndrain 3\n")
     keys = run_folder.children.stages()
     again = [key for key in keys if key in moment.started or keys.count(key) > 1 or key[0] in moment.ended]
-    if errors or again:
-        raise Difference(f"stages that had run, or whose jobs had ended, run: {again} {errors}")
+    holds(f"stages that had run, or whose jobs had ended, run: {again} {errors}", not errors and not again)
 
 
 def weight_of(moment):

@@ -1,34 +1,36 @@
-"""Network printers, simulated on the loopback address."""
+"""Network printers, simulated on the loopback address, and other servers of a test."""
+import contextlib
 import socket
 import struct
 import threading
 
 from harness.checks import LONGEST
+from harness.service import listening
 
 
 class Printer(threading.Thread):
-    """Listens on the loopback address, and runs the given function for each connection."""
+    """Listens on the loopback address, or at the path of a socket, and runs the given function for each connection."""
 
-    def __init__(self, serve, times=1, host="127.0.0.1"):
+    def __init__(self, serve, times=1, host="127.0.0.1", path=None):
         super().__init__(daemon=True)
         family = socket.AF_INET6 if ":" in host else socket.AF_INET
-        self.listener = socket.create_server((host, 0), family=family)
+        self.listener = listening(path) if path else socket.create_server((host, 0), family=family)
         self.listener.settimeout(LONGEST)
-        self.port = self.listener.getsockname()[1]
+        self.port = None if path else self.listener.getsockname()[1]
         self.serve, self.times, self.got, self.accepted = serve, times, [], 0
         self.start()
 
     def run(self):
-        for _ in range(self.times):
-            connection, _ = self.listener.accept()
-            self.accepted += 1
-            connection.settimeout(LONGEST)
-            with connection:
-                try:
-                    self.got.append(self.serve(connection))
-                except OSError as error:
-                    self.got.append(error)
-        self.listener.close()
+        with self.listener, contextlib.suppress(TimeoutError):
+            for _ in range(self.times):
+                connection, _ = self.listener.accept()
+                self.accepted += 1
+                connection.settimeout(LONGEST)
+                with connection:
+                    try:
+                        self.got.append(self.serve(connection))
+                    except OSError as error:
+                        self.got.append(error)
 
     def all(self):
         self.join(LONGEST)

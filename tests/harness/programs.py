@@ -7,9 +7,12 @@ import atexit
 import contextlib
 import functools
 import os
+import resource
 import shutil
+import signal
 import subprocess
 import tempfile
+from pathlib import Path
 
 HERE = os.path.dirname(os.path.realpath(__file__))
 TESTS = os.path.dirname(HERE)
@@ -55,8 +58,17 @@ def compiled(name, *words):
     folder = tempfile.mkdtemp(prefix="compiled-")
     atexit.register(shutil.rmtree, folder, ignore_errors=True)
     built = os.path.join(folder, name.removesuffix(".c"))
-    subprocess.run(["gcc", "-O1", *words, "-o", built, source], check=True)
+    subprocess.run(["gcc", "-O1", "-o", built, source, *words], check=True)
     return built
+
+
+def limited(kind, most):
+    """A function that sets a limit of a new process (getrlimit(2)), for `preexec_fn`. A write beyond it fails, and is not ended by a signal."""
+    def limit():
+        signal.signal(signal.SIGXFSZ, signal.SIG_IGN)
+        resource.setrlimit(kind, (most, most))
+
+    return limit
 
 
 def ended(words, **how):
@@ -87,7 +99,4 @@ def shell_on(root):
 
 def is_sanitized(program):
     """Whether a program was built with an address sanitizer, which keeps freed memory for a while."""
-    if not os.path.exists(program):
-        return False
-    with open(program, "rb") as file:
-        return b"__asan_" in file.read()
+    return os.path.exists(program) and b"__asan_" in Path(program).read_bytes()

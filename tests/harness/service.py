@@ -13,6 +13,7 @@ import time
 from pathlib import Path
 
 from harness.checks import Difference, holds, LONGEST, same, timed, until
+from harness.files import Place
 from harness.programs import SERVICE, SHELL
 
 # Words before the program's own arguments, such as `setarch`.
@@ -33,6 +34,13 @@ WAITS = '#!/bin/sh\nwhile [ ! -e FOLDER/go ]; do sleep 0.05; done\ncat "${6:--}"
 # A backend that ends as its device's URI says, and one that hangs.
 ENDS = '#!/bin/sh\nexit "${DEVICE_URI##*/}"\n'
 HANGS = "#!/bin/sh\necho $$ >>FOLDER/pids\nexec sleep 1000\n"
+
+# A backend that keeps the bytes of each job in a file of its own, and one that prints when it may.
+KEEPS = '#!/bin/sh\ncat "${6:--}" >FOLDER/kept-$1.new\nmv FOLDER/kept-$1.new FOLDER/kept-$1\n'
+PRINTS = '#!/bin/sh\nwhile [ ! -e FOLDER/backend-$1 ]; do sleep 0.05; done\ncat >/dev/null\n'
+
+# The backends of each folder, by their schemes.
+BACKENDS = {"slow": BACKEND, "waits": WAITS, "ends": ENDS, "hangs": HANGS, "keeps": KEEPS, "prints": PRINTS}
 
 # A filter that sleeps, and passes on the document.
 FILTER = '#!/bin/sh\nsleep SECONDS\necho first >>FOLDER/stages\ncat "$6"\n'
@@ -170,10 +178,8 @@ class Client:
 
 def answer(client):
     """The first line of `queues`, from a service that may have closed the connection after a line of its own."""
-    try:
+    with contextlib.suppress(ConnectionError):
         client.say("queues\n")
-    except ConnectionError:
-        pass
     return client.reply()
 
 
@@ -214,7 +220,7 @@ def patient_client(folder, longest=LONGEST):
 
 # ---- the folder
 
-class Folder:
+class Folder(Place):
     """The folder of a test: its programs, and the service."""
 
     # The program, and whether the long tests are run in full.
@@ -222,7 +228,7 @@ class Folder:
     is_long = False
 
     def __init__(self, parent=None):
-        self.path = tempfile.mkdtemp(prefix="service-", dir=parent)
+        super().__init__(tempfile.mkdtemp(prefix="service-", dir=parent))
         os.mkdir(self.at("spool"))
         self.socket = self.at("spool", "spool.sock")
         self.running = None
@@ -232,15 +238,12 @@ class Folder:
         self.words = []
         self.environment = {}
         self.lines = []
-        self.backend("slow", BACKEND)
-
-    def at(self, *names):
-        return os.path.join(self.path, *names)
+        for name, text in BACKENDS.items():
+            self.backend(name, text)
 
     def write(self, name, text, mode=0o644):
         """Writes bytes, or a text in which FOLDER is the path of this folder."""
-        Path(self.at(name)).write_bytes(text if isinstance(text, bytes) else text.replace("FOLDER", self.path).encode())
-        os.chmod(self.at(name), mode)
+        return super().write(name, text if isinstance(text, bytes) else text.replace("FOLDER", self.path), mode)
 
     def read(self, name):
         """The contents of a file, which may not exist."""
@@ -257,10 +260,9 @@ class Folder:
     # ---- programs
 
     def program(self, kind, name, text):
-        """Writes a program, and adds it to the programs file."""
-        file = f"{kind}-{name}"
-        self.write(file, text, 0o755)
-        self.lines.append(f"{kind} {name} {self.at(file)}\n")
+        """Writes a program, and adds it to the programs file, once."""
+        line = f"{kind} {name} {self.write(f'{kind}-{name}', text, 0o755)}\n"
+        self.lines += [line] if line not in self.lines else []
         self.write("programs", "".join(self.lines))
 
     def backend(self, name, text):
@@ -387,6 +389,13 @@ class Folder:
         fields = Path(f"/proc/{self.running.pid}/stat").read_text().rsplit(") ", 1)[1].split()
         return (int(fields[11]) + int(fields[12])) * 1000 / os.sysconf("SC_CLK_TCK")
 
+    def work_for(self, what, count):
+        """The milliseconds of the processor that it takes for each of `count` calls."""
+        before = work_of(self.running.pid)
+        for _ in range(count):
+            what()
+        return (work_of(self.running.pid) - before) / count / 1e6
+
     def disk_time(self):
         """When the spool was last written."""
         return os.stat(self.at("spool", "spool.disk")).st_mtime_ns
@@ -401,12 +410,10 @@ class Folder:
 
 def kill_children(process):
     """Kills the processes that a process has started: strace leaves them running when it is killed itself."""
-    try:
+    with contextlib.suppress(OSError):
         with open(f"/proc/{process}/task/{process}/children") as file:
             for child in file.read().split():
                 os.kill(int(child), signal.SIGKILL)
-    except OSError:
-        pass
 
 
 def fields_of(lines):
@@ -478,10 +485,6 @@ def undelayed(what, meanwhile, usual, slack=SLACK):
 # The most bytes of a `send`.
 PIECE = 65_536
 
-# A backend that keeps the bytes of each job in a file of its own.
-KEEPS = '#!/bin/sh\ncat "${6:--}" >FOLDER/kept-$1.new\nmv FOLDER/kept-$1.new FOLDER/kept-$1\n'
-
-
 def kept(folder, job):
     return Path(folder.at(f"kept-{job}")).read_bytes()
 
@@ -500,7 +503,7 @@ def send_document(client, job, data):
         sent = send_piece(client, job, data, sent)
 
 
-# A filter that says something when it may, and a backend that prints when it may.
+# A filter that says something when it may.
 SAYS = """#!/bin/sh
 while [ ! -e FOLDER/filter-$1 ]; do sleep 0.05; done
 echo 'STATE: +toner-empty-error,media-low-warning' >&2
@@ -508,8 +511,6 @@ echo 'ATTR: marker-levels=5' >&2
 echo "INFO: job $1, $3" >&2
 cat "$6"
 """
-
-PRINTS = '#!/bin/sh\nwhile [ ! -e FOLDER/backend-$1 ]; do sleep 0.05; done\ncat >/dev/null\n'
 
 
 def started(folder, count):

@@ -179,10 +179,13 @@ class Job:
             return journal.aborted(self.reason)
         return {"completed": journal.COMPLETED, "canceled": journal.CANCELED}[self.phase]
 
-    def rows(self):
+    def row(self):
         wishes = (self.number, self.queue, self.user, self.title, self.copies, self.priority, self.options)
         state = (self.media, tuple(self.filters), self.attempts, self.pages, self.size, self.spelled_phase(), self.by)
-        return [journal.Job(*wishes, *state), *journal.pieces(self.number, self.document)]
+        return journal.Job(*wishes, *state)
+
+    def rows(self):
+        return [self.row(), *journal.pieces(self.number, self.document)]
 
     def shown(self, now):
         """Its number for a state, and the word after it."""
@@ -220,50 +223,33 @@ class Table:
         {0x40: self.load_head, 0x41: self.load_queue, 0x42: self.load_job, 0x43: self.load_piece}[kind](fields)
 
     def load_head(self, fields):
-        highest, now = fields.number(4, 0, GREATEST_JOB), fields.moment()
-        fields.end()
+        head = read_head(fields)
         demand(not self.is_listed)
-        self.is_listed, self.highest, self.now = True, highest, now
+        self.is_listed, self.highest, self.now = True, head.highest, head.now
 
     def load_queue(self, fields):
-        queue = new_queue(fields)
-        queue.info, queue.location = fields.text(NOTE), fields.text(NOTE)
-        queue.accepting, queue.stopped, queue.message = fields.flag(), fields.flag(), fields.text(MESSAGE)
-        reasons = fields.texts(REASON, 1, 0, MOST_KEPT)
-        pairs = [(fields.text(ATTRIBUTE), fields.text(MESSAGE)) for _ in range(fields.number(1, 0, MOST_KEPT))]
-        fields.end()
-        queue.reasons, queue.attributes = set(reasons), dict(pairs)
-        demand(reasons == sorted(queue.reasons) and [name for name, _ in pairs] == sorted(queue.attributes))
+        queue = read_queue(fields)
         demand(self.is_listed and self.partial is None and not self.jobs and len(self.queues) < MOST_QUEUES)
         demand(all(name < queue.name for name in self.queues))
         self.queues[queue.name] = queue
 
     def load_job(self, fields):
-        number, queue = fields.job(), fields.text(NAME)
-        job = Job(number, queue, *wishes(fields))
-        job.media = fields.text(MEDIA) if fields.flag() else None
-        job.filters = fields.texts(FILTER, 1, 0, 15)
-        job.attempts, job.pages, job.size = fields.number(4), fields.number(4), fields.number(4, 0, LONGEST_DOCUMENT)
-        load_phase(job, fields)
-        job.by = fields.moment() if self.version > 1 and fields.flag() else None
-        fields.end()
+        job = read_job(fields, self.version)
         demand(self.is_listed and self.partial is None)
-        demand(all(other < number for other in self.jobs) and number <= self.highest and queue in self.queues)
+        demand(all(other < job.number for other in self.jobs) and job.number <= self.highest and job.queue in self.queues)
         if job.phase == "incoming":
             demand(job.media is None and not job.filters and job.attempts < GREATEST_COUNT)
         if job.phase == "waiting":
             demand(job.media is not None and job.attempts < GREATEST_COUNT)
         if job.phase == "processing":
-            demand(job.media is not None and job.attempts and job.stage <= len(job.filters) + 1 and not self.is_busy(queue))
-        self.jobs[number] = job
+            demand(job.media is not None and job.attempts and job.stage <= len(job.filters) + 1 and not self.is_busy(job.queue))
+        self.jobs[job.number] = job
         self.partial = job if job.size and not job.has_ended() else None
 
     def load_piece(self, fields):
-        number, data = fields.job(), fields.bytes(1)
-        fields.end()
-        job = self.partial
-        demand(job and job.number == number and len(data) == min(job.size - len(job.document), LONGEST_SEND))
-        job.document += data
+        piece, job = read_piece(fields), self.partial
+        demand(job and job.number == piece.job and len(piece.data) == min(job.size - len(job.document), LONGEST_SEND))
+        job.document += piece.data
         self.partial = job if len(job.document) < job.size else None
 
     # ---- events
@@ -420,6 +406,10 @@ class Table:
 
     # ---- its output
 
+    def contents(self):
+        """Its version and its rows."""
+        return self.version, self.listing()
+
     def processing(self):
         return [job for job in self.jobs.values() if job.phase == "processing"]
 
@@ -481,6 +471,51 @@ def new_job(fields):
 def wishes(fields):
     """The fields of a new job, after its queue and its number."""
     return fields.text(USER), fields.text(TITLE), fields.number(2, 1, 9_999), fields.number(1, 1, 100), fields.text(OPTIONS)
+
+
+def read_head(fields):
+    head = journal.Head(fields.number(4, 0, GREATEST_JOB), fields.moment())
+    fields.end()
+    return head
+
+
+def read_queue(fields):
+    queue = new_queue(fields)
+    queue.info, queue.location = fields.text(NOTE), fields.text(NOTE)
+    queue.accepting, queue.stopped, queue.message = fields.flag(), fields.flag(), fields.text(MESSAGE)
+    reasons = fields.texts(REASON, 1, 0, MOST_KEPT)
+    pairs = [(fields.text(ATTRIBUTE), fields.text(MESSAGE)) for _ in range(fields.number(1, 0, MOST_KEPT))]
+    fields.end()
+    queue.reasons, queue.attributes = set(reasons), dict(pairs)
+    demand(reasons == sorted(queue.reasons) and [name for name, _ in pairs] == sorted(queue.attributes))
+    return queue
+
+
+def read_job(fields, version):
+    number, queue = fields.job(), fields.text(NAME)
+    job = Job(number, queue, *wishes(fields))
+    job.media = fields.text(MEDIA) if fields.flag() else None
+    job.filters = fields.texts(FILTER, 1, 0, 15)
+    job.attempts, job.pages, job.size = fields.number(4), fields.number(4), fields.number(4, 0, LONGEST_DOCUMENT)
+    load_phase(job, fields)
+    job.by = fields.moment() if version > 1 and fields.flag() else None
+    fields.end()
+    return job
+
+
+def read_piece(fields):
+    piece = journal.Piece(fields.job(), fields.bytes(1))
+    fields.end()
+    return piece
+
+
+def read_row(payload, version=journal.NEWEST):
+    """The row of a listing in a payload, for an area of this version."""
+    fields = Fields(payload)
+    kind = fields.number(1, 0x40, 0x43)
+    if kind in (0x40, 0x43):
+        return read_head(fields) if kind == 0x40 else read_piece(fields)
+    return read_queue(fields).row() if kind == 0x41 else read_job(fields, version).row()
 
 
 def load_hold(fields):

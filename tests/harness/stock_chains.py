@@ -4,16 +4,17 @@ One document of each kind is printed in two copies on nine queues at once, each 
 type, the number of pages, whether something is on each, and for a PDF the paper size. It also asks CUPS's program `cupsfilter`, which reads
 the same files, for the filters.
 """
+import contextlib
 import os
 import re
 import shutil
 import subprocess
 from pathlib import Path
 
-from harness.checks import check, compare, LONGEST, until
-from harness.files import read, write
-from harness.programs import SERVICE, SHELL, TOOLS, unbuilt
-from harness.service import Client
+from harness.checks import check, compare, LONGEST, same
+from harness.files import read
+from harness.programs import TOOLS
+from harness.service import Folder, send_document
 from harness.stock_documents import boxes, OFFICE
 
 # The columns of the page's table, and the kinds of documents.
@@ -22,66 +23,33 @@ COPIES = 2
 PAPER, POINTS = "A5", "420 x 595"
 
 
-class ChainSpool:
-    """A folder with a spool and the files of examples/office, and its printed output: by the service if that is built, or else by the
-    shell.
-    """
-
-    def __init__(self, place, name):
-        self.folder = os.path.join(place.room, name)
-        spool = os.path.join(self.folder, "spool")
-        os.makedirs(spool)
-        self.socket = os.path.join(spool, "spool.sock")
+@contextlib.contextmanager
+def service(place):
+    """A client of a service with the files of examples/office, and its folder, during a `with`."""
+    folder = Folder(place.room)
+    try:
         text = Path(place.office, "stock-programs").read_text()
-        text = text.replace("@libdir@/cegmandi/spool_tools", TOOLS).replace("@libdir@/cegmandi", place.office)
-        programs = write(os.path.join(self.folder, "programs"), text)
-        self.serves = not unbuilt("spool_service")
-        self.words = [SERVICE if self.serves else SHELL, "--root", spool, "--programs", programs, "--size", "67108864"]
-        self.words += ["--types", os.path.join(place.office, "types"), "--convs", os.path.join(place.office, "convs")]
-
-    def commands(self, targets, document):
-        """The commands for a job on each queue, a list for each."""
-        for number, target in enumerate(targets, 1):
-            file = os.path.join(self.folder, f"q{number}")
-            yield [
-                f"queue q{number} spoolfile:{file} {target} abort-job\n".encode(),
-                f'create q{number} ann "A page" {COPIES} 50 "media={PAPER}"\n'.encode(),
-                b"send %d %d\n%s\n" % (number, len(document), document),
-                f"close {number} page\n".encode(),
-            ]
-
-    def print(self, targets, document):
-        """The reply to the close of each job, and how the job ends."""
-        commands = list(self.commands(targets, document))
-        return self.print_by_service(commands) if self.serves else self.print_by_shell(commands)
-
-    def print_by_service(self, commands):
-        program = subprocess.Popen(self.words + ["--quiet"], stderr=subprocess.PIPE)
-        try:
-            until("the service", lambda: os.path.exists(self.socket) or program.poll() is not None)
-            client = Client(self)
-            client.connection.settimeout(300)
-            replies = [[client.ask(command) for command in job][-1] for job in commands]
-            ends = [client.listing(f"wait {number}\n")[0] for number in range(1, len(replies) + 1) if "stages" in replies[number - 1]]
-            rows = {int(row.split()[1]): row for row in ends}
-        finally:
-            program.terminate()
-            program.communicate(timeout=LONGEST)
-        return [(reply, state_of(rows.get(number, ""))) for number, reply in enumerate(replies, 1)]
-
-    def print_by_shell(self, commands):
-        script = b"".join(b"".join(job) for job in commands) + b"drain 100\njobs\n"
-        lines = subprocess.run(self.words, input=script, capture_output=True, timeout=5 * LONGEST).stdout.decode().splitlines()
-        rows = {int(row.split()[1]): row for row in lines if row.startswith("job ")}
-        return [(lines[4 * number - 1], state_of(rows.get(number, ""))) for number in range(1, len(commands) + 1)]
-
-    def printed(self, number):
-        return read(os.path.join(self.folder, f"q{number}")) or b""
+        folder.write("stock", text.replace("@libdir@/cegmandi/spool_tools", TOOLS).replace("@libdir@/cegmandi", place.office))
+        folder.size = 67_108_864
+        client = folder.open(words=["--programs", folder.at("stock"), "--types", f"{place.office}/types", "--convs", f"{place.office}/convs", "--quiet"])
+        client.connection.settimeout(300)
+        yield client, folder
+    finally:
+        folder.end()
+        folder.remove()
 
 
-def state_of(row):
-    """The state and the reason of a job, from its row."""
-    return " ".join(row.split()[3:5])
+def print_on(client, folder, targets, document):
+    """Prints a document on a queue of each of these types. Returns the reply to the close of each job, how it ends, and its output."""
+    replies = []
+    for number, target in enumerate(targets, 1):
+        client.does(f"queue q{number} spoolfile:{folder.at(f'q{number}')} {target} abort-job")
+        same("create", client.ask(f'create q{number} ann "A page" {COPIES} 50 "media={PAPER}"\n'), f"ok job {number}")
+        send_document(client, number, document)
+        replies.append(client.ask(f"close {number} page\n"))
+    for number, reply in enumerate(replies, 1):
+        row = client.listing(f"wait {number}\n")[0].split() if "stages" in reply else []
+        yield reply, " ".join(row[3:5]), read(folder.at(f"q{number}")) or b""
 
 
 def conversions(place):
@@ -194,16 +162,15 @@ def try_kind(place, rows, kind):
     """Prints a document of a kind on queues of each target."""
     lines = conversions(place)
     document, media = OFFICE[kind]
-    spool = ChainSpool(place, kind)
-    results = spool.print([target for target, _ in rows.chains], document)
-    for number, ((target, cells), (reply, end)) in enumerate(zip(rows.chains, results), 1):
+    with service(place) as (client, folder):
+        results = list(print_on(client, folder, [target for target, _ in rows.chains], document))
+    for (target, cells), (reply, end, output) in zip(rows.chains, results):
         cell = cells[KINDS[kind]]
         filters = filters_of(cell)
         compare(f"{target}: the reply", reply, f"ok type {media} unprintable" if cell == "none" else f"ok type {media} stages {len(filters) + 1}")
         if cell == "none" or "unprintable" in reply:
             continue
         check(leads(lines, media, target, filters), f"{target}: convs has no way by {filters}")
-        output = spool.printed(number)
         wrong = wrong_of(place, target, kind, filters, output) if end.startswith("9 ") else f"state {end}"
         check(not wrong, f"{target}: {wrong}")
         print(f"{target} by {', '.join(filters) or 'no filter'}: {len(output)} bytes, {pages_of(place, output) or 'no'} pages")

@@ -6,6 +6,7 @@ import subprocess
 from dataclasses import dataclass
 
 from harness.checks import LONGEST
+from harness.child_folder import printed
 from harness.files import read, write
 from harness.programs import SHELL
 
@@ -99,11 +100,8 @@ class Place:
         words = [SHELL, "--root", spool, "--size", "33554432"]
         for kind, text in (("programs", programs), ("types", types), ("convs", convs)):
             words += ["--" + kind, self.write(f"{kind}{self.runs}", text)]
-        script = f'queue stock {uri} {target} abort-job\ncreate stock {user} "A page" 1 50 "{options}"\n'.encode()
-        for at in range(0, len(document), 65_536):
-            piece = document[at : at + 65_536]
-            script += b"send 1 %d\n%s\n" % (len(piece), piece)
-        script += b"close 1 page.document\ndrain 9\njobs\nqueues\n"
+        job = {"user": user, "title": '"A page"', "options": f'"{options}"', "document": document, "name": "page.document"}
+        script = printed("stock", uri, target, **job) + b"drain 9\njobs\nqueues\n"
         try:
             ran = subprocess.run(words, input=script, capture_output=True, timeout=3 * LONGEST)
         except subprocess.TimeoutExpired:

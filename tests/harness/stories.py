@@ -9,6 +9,7 @@ from harness import journal
 from harness.checks import LONGEST, same, words_of_faults
 from harness.journal import cancel, close, Head, image, Job, places, Queue, REOPEN, start, waiting
 from harness.programs import SHELL
+from harness.spool_model import read_row
 
 SIZE = 8_192  # of a spool if a test does not specify it
 GREATEST = 2 ** 32 - 1
@@ -75,7 +76,7 @@ class Spool:
         payloads, epoch = journal.current(self.content())
         same("the epoch", epoch, before + 1)
         same("the version", journal.current_version(self.content()), journal.NEWEST)
-        rows = [journal.read_row(payload) for payload in payloads]
+        rows = [read_row(payload) for payload in payloads]
         same("the encoded rows", [row.payload() for row in rows], payloads)
         return rows
 

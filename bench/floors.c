@@ -1,7 +1,10 @@
-/* Measures the minimum cost of a spooler's children: launches COUNT GROUP FOLDER PROGRAM [DISK]
+/* Measures the minimum cost of a spooler's events and of its children, and prints a time in seconds.
 
-   Launches GROUP copies of PROGRAM at once through `/bin/sh -c` and `env -i`, waits for them, and repeats this until COUNT
-   copies have run. Prints the time in seconds.
+   floors DISK EVENTS BYTES: the time of EVENTS events. An event is a record of BYTES bytes in the file DISK, with two writes and
+   two syncs: the record after its first byte, and then its first byte. A spool makes the same four calls for each event.
+
+   floors COUNT GROUP FOLDER PROGRAM [DISK]: the time of COUNT children. It launches GROUP copies of PROGRAM at once through
+   `/bin/sh -c` and `env -i`, waits for them, and repeats this until COUNT copies have run.
 
    Without DISK it journals nothing, reads no output, and gives a child no variables. With DISK it does everything that a
    spooler with the same promises must do:
@@ -10,7 +13,7 @@
    - It starts the child in a session of its own, with default signals and descriptors, and with the variables and arguments
      of a job. The child's script distinguishes a file that cannot be opened from a failure of the program.
    - It reads what the child wrote.
-   - It journals the start and the end of each child in the file DISK, each with two writes and two syncs as in `floor.c`. */
+   - It journals the start and the end of each child in the file DISK, each as an event. */
 #define _GNU_SOURCE
 #include <fcntl.h>
 #include <signal.h>
@@ -22,7 +25,7 @@
 #include <time.h>
 #include <unistd.h>
 
-#define EVENT 32     /* length of an event with its gate, in bytes */
+#define EVENT 32     /* length of a child's event with its gate, in bytes */
 #define LONGEST 64   /* greatest length of an argument list */
 
 static char *empty[] = {NULL};
@@ -79,15 +82,15 @@ static int make(const char *folder, const char *name, int n, char *path, size_t 
     return file;
 }
 
-static void journal(int disk)
+static void journal(int disk, size_t length)
 {
     static off_t end = 0;
-    static const char event[EVENT];
+    static const char event[1 << 20];
     if (disk < 0)
         return;
-    need(pwrite(disk, event + 1, EVENT - 1, end + 1) == EVENT - 1 && !fdatasync(disk));
+    need(length <= sizeof event && pwrite(disk, event, length - 1, end + 1) == (ssize_t)length - 1 && !fdatasync(disk));
     need(pwrite(disk, "\xa5", 1, end) == 1 && !fdatasync(disk));
-    end += EVENT;
+    end += (off_t)length;
 }
 
 static void start_bare(struct child *child, char *program)
@@ -152,40 +155,61 @@ static void finish(struct child *child, int disk)
     unlink(child->in);
     unlink(child->out);
     unlink(child->err);
-    journal(disk);
+    journal(disk, EVENT);
 }
 
-/* Creates a file of zeros with room for all events. */
-static int make_disk(const char *path, int count)
+/* Creates a file of this number of zeros, or of the default size of a spool's disk, if that is more. */
+static int make_disk(const char *path, off_t length)
 {
-    static const char zeros[2 * EVENT];
+    static const char zeros[4194304];
     int disk = open(path, O_CREAT | O_TRUNC | O_RDWR | O_CLOEXEC, 0600);
     need(disk >= 0);
-    for (int n = 0; n < count; n++)
+    for (off_t at = 0; at == 0 || at < length; at += (off_t)sizeof zeros)
         need(write(disk, zeros, sizeof zeros) == sizeof zeros);
     need(!fsync(disk));
     return disk;
 }
 
-int main(int count_of_words, char **given)
+static double now(void)
 {
-    if (count_of_words != 5 && count_of_words != 6)
-        return 2;
-    int count = atoi(given[1]), group = atoi(given[2]);
+    struct timespec time;
+    clock_gettime(CLOCK_MONOTONIC, &time);
+    return (double)time.tv_sec + 1e-9 * (double)time.tv_nsec;
+}
+
+static void run_events(int disk, int count, size_t length)
+{
+    for (int n = 0; n < count; n++)
+        journal(disk, length);
+}
+
+static void run_children(int count, int group, const char *folder, char *program, int disk)
+{
     struct child children[group];
-    /* Only whole groups are run, so the number may exceed COUNT. */
-    int disk = count_of_words == 6 ? make_disk(given[5], count + group) : -1;
-    struct timespec begin, end;
-    clock_gettime(CLOCK_MONOTONIC, &begin);
     for (int ran = 0; ran < count; ran += group) {
+        run_events(disk, group, EVENT);
         for (int n = 0; n < group; n++)
-            journal(disk);
-        for (int n = 0; n < group; n++)
-            start(&children[n], given[3], n, given[4], disk);
+            start(&children[n], folder, n, program, disk);
         for (int n = 0; n < group; n++)
             finish(&children[n], disk);
     }
-    clock_gettime(CLOCK_MONOTONIC, &end);
-    printf("%f\n", (double)(end.tv_sec - begin.tv_sec) + 1e-9 * (double)(end.tv_nsec - begin.tv_nsec));
+}
+
+int main(int count_of_words, char **given)
+{
+    if (count_of_words < 4 || count_of_words > 6)
+        return 2;
+    int disk = -1, count = atoi(given[count_of_words == 4 ? 2 : 1]), group = atoi(given[2]);
+    if (count_of_words == 4)
+        disk = make_disk(given[1], (off_t)count * atol(given[3]));
+    /* Only whole groups are run, so the number may exceed COUNT. A child has two events. */
+    if (count_of_words == 6)
+        disk = make_disk(given[5], (off_t)2 * (count + group) * EVENT);
+    double begin = now();
+    if (count_of_words == 4)
+        run_events(disk, count, (size_t)atol(given[3]));
+    else
+        run_children(count, group, given[3], given[4], disk);
+    printf("%f\n", now() - begin);
     return 0;
 }
