@@ -118,7 +118,10 @@ impl PrintingJob {
                 ..
             } => send_text(alloc, job, self.piece.as_slice())?,
             Request::Send {
-                job, size, piece, ..
+                job,
+                size,
+                piece,
+                ..
             } => self.last_line(alloc, next.part, job, size_after(size, piece))?,
             Request::Show { job } => job_line(alloc, "job", job)?,
             Request::Hold { job } => hold_line(alloc, job, &self.hold)?,

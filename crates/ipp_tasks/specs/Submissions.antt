@@ -28,7 +28,7 @@ abbrev pub TakesSome : Progress → Progress → Type 0
 TakesSome old new =
     (new ≡ old)
     ⊎ ((is_ready old ≡ true)
-        × ((new ≡ with_document old) ⊎ (((is_last : Bool) × ((count : ℕ) × (new ≡ supplied_by is_last old count))) ⊎ (new ≡ finished old))))
+    × ((new ≡ with_document old) ⊎ (((is_last : Bool) × ((count : ℕ) × (new ≡ supplied_by is_last old count))) ⊎ (new ≡ finished old))))
 
 -- The connection to the service was lost before the reply.
 abbrev pub LosesSome : Progress → Progress → Type 0

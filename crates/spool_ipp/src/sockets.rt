@@ -312,10 +312,7 @@ impl<'a> Sockets for MioSockets<'a> {
 
     fn watch(&mut self, stream: &mut MioStream<'a>, key: usize) -> bool {
         stream.token = Token(key.saturating_add(FIRST_CLIENT));
-        stream
-            .peer
-            .register(self.registry, stream.token)
-            .is_ok()
+        stream.peer.register(self.registry, stream.token).is_ok()
     }
 
     fn connect(&mut self) -> Option<MioStream<'a>> {
