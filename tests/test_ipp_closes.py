@@ -60,7 +60,7 @@ def is_kept(name):
     return name.startswith("kept-") and not name.endswith(".new")
 
 
-# ---- what is sent together
+# ---- commands that are sent together
 
 @pytest.mark.parametrize("length", [1, 1_024, 30_000, 100_000, 300_000])
 def test_sent_together(folder, length):
