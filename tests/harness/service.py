@@ -489,6 +489,11 @@ def kept(folder, job):
     return Path(folder.at(f"kept-{job}")).read_bytes()
 
 
+def all_kept(folder):
+    """All documents that the backend has kept, sorted."""
+    return sorted(path.read_bytes() for path in Path(folder.path).glob("kept-*") if path.suffix != ".new")
+
+
 def send_piece(client, job, data, sent):
     """Sends the next piece of a document of which `sent` bytes were sent. Returns how many were then."""
     piece = data[sent : sent + PIECE]
