@@ -54,7 +54,8 @@ class Front:
         return self.ended(*words, status=status, **more).stderr.decode()
 
     def start(self, *words, **more):
-        return subprocess.Popen(self.command(words), stdin=subprocess.DEVNULL, stdout=subprocess.PIPE, stderr=subprocess.PIPE, env=self.environment, **more)
+        streams = {"stdin": subprocess.DEVNULL, "stdout": subprocess.PIPE, "stderr": subprocess.PIPE, **more}
+        return subprocess.Popen(self.command(words), env=self.environment, **streams)
 
     @contextlib.contextmanager
     def watching(self, *words):
