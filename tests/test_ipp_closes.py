@@ -3,9 +3,7 @@ import contextlib
 import re
 import select
 import socket
-import subprocess
 import time
-from pathlib import Path
 
 import pytest
 
@@ -189,26 +187,14 @@ def test_unshown_job(folder):
 
 # ---- output that waits
 
-@contextlib.contextmanager
-def traced(front, folder):
-    """The calls of the front on readiness, and its writes to connections, in a list that is filled at the end."""
-    calls, path = [], folder.at("trace")
-    words = ["strace", "-f", "-e", "trace=epoll_wait,epoll_ctl,sendto", "-o", path, "-p", str(front.running.pid)]
-    with subprocess.Popen(words, stderr=subprocess.PIPE) as tracer:
-        holds("it is traced", b"attached" in tracer.stderr.readline())
-        yield calls
-        tracer.terminate()
-        tracer.stderr.read()
-    calls += Path(path).read_text().splitlines()
-
-
 @pytest.mark.strace
 def test_slow_reader(folder, ipp):
     """A connection is watched for writing only while an answer waits, which does not fit into its buffer, until the rest is written."""
     Client(folder).does("disable q")
     name = attribute(NAME, "job-name", "n" * 250)
     at_once([lambda: [ipp.ask(PRINT_JOB, name, document=b"x") for _ in range(60)]] * 4)
-    with traced(ipp, folder) as calls, Connection(socket.socket(socket.AF_UNIX)) as line:
+    words = ["-f", "-e", "trace=epoll_wait,epoll_ctl,sendto"]
+    with folder.traced(*words, process=ipp.running.pid), Connection(socket.socket(socket.AF_UNIX)) as line:
         line.connection.settimeout(LONGEST)
         line.connection.connect(ipp.local)
         line.post(message(GET_JOBS, ipp.uri(), attribute(KEYWORD, "requested-attributes", "all")))
@@ -217,6 +203,7 @@ def test_slow_reader(folder, ipp):
         status, content = line.reply()
         same("jobs", (status, len(read(content)[1])), (200, 241))
         same("another", line.ask(message(GET_JOB, ipp.uri(), attribute(INTEGER, "job-id", 1)))[0], OK)
+    calls = folder.read("calls").splitlines()
     changes = [re.search(r"EPOLL_CTL_MOD.*events=([A-Z|]*)", call) for call in calls]
     changes = ["EPOLLOUT" in change[1] for change in changes if change]
     holds(f"changes {changes}", changes and changes == [True, False] * (len(changes) // 2))

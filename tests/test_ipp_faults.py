@@ -13,6 +13,7 @@ import pytest
 
 from harness.checks import at_once, Difference, holds, LONGEST, same, timed, until
 from harness.cutter import Cutter, REPLIES, REQUESTS
+from harness.front import in_browser
 from harness.ipp import (
     attribute, CANCEL_JOB, Connection, CREATE_JOB, GET_JOB, GET_JOBS, GET_PRINTER, INTEGER, Ipp, job_of, KEYWORD, LAST, message, MIME,
     NAME, OK, PRINT_JOB, read, SEND_DOCUMENT, VALIDATE_JOB,
@@ -365,9 +366,7 @@ def test_thousands_of_connections(ipp, is_long):
 
 @pytest.mark.needs("chromium")
 def test_page_in_a_browser(folder, ipp):
-    """Debian's package chromium shows the page that the front serves: its cells, and no markup of a title."""
+    """It shows the cells of the page that the front serves, and no markup of a title."""
     ipp.lp("-d", "q", "-t", "<script>document.title='run'</script><b>bold</b>", "-H", "indefinite", data=b"x")
-    words = ["--headless", "--no-sandbox", "--disable-gpu", f"--user-data-dir={folder.at('browser')}", "--dump-dom"]
     for path in ("/", "/printers/q"):
-        shown = subprocess.run(["chromium", *words, f"http://{ipp.address}{path}"], capture_output=True, timeout=LONGEST).stdout.decode()
-        holds(shown, "&lt;b&gt;bold&lt;/b&gt;" in shown and "<script" not in shown)
+        in_browser(folder, f"http://{ipp.address}{path}")

@@ -90,6 +90,14 @@ class Front:
         return text.decode(), child.wait(LONGEST)
 
 
+def in_browser(folder, address):
+    """The page that Debian's package chromium shows, which has the title of a hostile client as a text."""
+    words = ["--headless", "--no-sandbox", "--disable-gpu", f"--user-data-dir={folder.at('browser')}", "--dump-dom"]
+    shown = subprocess.run(["chromium", *words, address], capture_output=True, timeout=LONGEST).stdout.decode()
+    holds(shown, "&lt;b&gt;bold&lt;/b&gt;" in shown and "<script" not in shown)
+    return shown
+
+
 def first_line(child, change):
     """The first line of a program that watches. It may begin only later, so the change is repeated."""
     while not select.select([child.stdout], [], [], 0.5)[0]:

@@ -5,7 +5,7 @@ import socket
 import struct
 import subprocess
 
-from harness.checks import holds, LONGEST, same, until
+from harness.checks import holds, listens, LONGEST, same, until
 from harness.programs import IPP
 from harness.service import listening
 
@@ -58,13 +58,8 @@ class Ipp:
 
     def serves(self):
         same("the front", self.running.poll(), None)
-        try:
-            # It listens there last.
-            with socket.socket(socket.AF_UNIX) as probe:
-                probe.connect(self.operators)
-            return True
-        except OSError:
-            return False
+        # It listens there last.
+        return listens(self.operators)
 
     def connect(self):
         return socket.create_connection(("127.0.0.1", self.port), timeout=LONGEST)
