@@ -24,30 +24,19 @@ from pathlib import Path
 from harness.files import write
 from harness.people import made_users
 from harness.programs import compiled, CRATES, SERVICE
-from harness.service import Client, Folder
+from harness.service import Folder
+from service import RunningService
 
 USERS = [f"cegmandi-b{number}" for number in range(1, 5)]
 TURN = 20
 
 
-def service(program, words):
-    folder = Folder()
-    folder.service = program
-    os.chmod(folder.path, 0o711)
-    folder.lines.append("backend nothing /bin/true\n")
-    folder.write("programs", "".join(folder.lines))
-    folder.start("--quiet", *words)
-    client = Client(folder)
-    folder.queue(client, "q", "x", scheme="nothing")
-    return folder, client
-
-
 def turn(client):
     """The milliseconds per job of a turn."""
-    client.ask("disable q\n")
-    jobs = [client.submit("q") for _ in range(TURN)]
+    client.ask("disable q0\n")
+    jobs = [client.submit("q0") for _ in range(TURN)]
     began = time.perf_counter()
-    client.ask("enable q\n")
+    client.ask("enable q0\n")
     client.listing(f"wait {jobs[-1]}\n")
     return (time.perf_counter() - began) * 1000 / TURN
 
@@ -77,11 +66,12 @@ def programs(rounds):
 
 def main(program, jobs):
     with made_users(*USERS), contextlib.ExitStack() as ends:
-        both = [service(program, []), service(program, ["--children-user", ",".join(USERS)])]
-        for folder, _ in both:
-            ends.callback(folder.remove)
-            ends.callback(folder.end)
-        times = [[turn(client) for _, client in both] for _ in range(max(2, jobs // TURN))][1:]
+        Folder.service, both = program, []
+        for words in ([], ["--children-user", ",".join(USERS)]):
+            made = RunningService(1, "x", "/bin/true", words=words)
+            os.chmod(made.folder.path, 0o711)
+            both.append(ends.enter_context(made).client)
+        times = [[turn(client) for client in both] for _ in range(max(2, jobs // TURN))][1:]
         plain, users = [statistics.median(column) for column in zip(*times)]
         more = statistics.median(after - before for before, after in times)
         print(f"as the service {plain:.2f} ms per job, as users {users:.2f} ms, difference {more:.2f} ms")

@@ -108,28 +108,17 @@ def rate(server, connections, count, act):
     return share_of(connections, count) * connections / timed(lambda: at_once([share] * connections))
 
 
-def sent_rate(server, requests, connections, count):
+def answered(server, requests, count, connections):
     """How often per second a server answers these requests on this many connections, `count` times in all."""
     each = share_of(connections, count)
-    with tempfile.TemporaryDirectory() as room:
+    with tempfile.TemporaryDirectory() as room, server() as started:
         files = [write(os.path.join(room, str(number)), request) for number, request in enumerate(requests)]
-        words = [load_program(), server.socket, str(connections), str(each), *files]
+        words = [compiled("ipp_load.c"), started.socket, str(connections), str(each), *files]
         seconds = float(subprocess.run(words, check=True, stdout=subprocess.PIPE).stdout)
     return each * connections / seconds
 
 
-@functools.lru_cache(maxsize=None)
-def load_program():
-    return compiled("ipp_load.c")
-
-
 # ---- documents
-
-
-def answered(server, requests, count, connections):
-    """How often per second a server answers these requests."""
-    with server() as started:
-        return sent_rate(started, requests, connections, count)
 
 
 def documents(name, requests_of):

@@ -164,6 +164,13 @@ def floor(folder, events, length):
 
 # ---- the service
 
+def worked(folder):
+    """The processor time in milliseconds of a service in ten seconds."""
+    before = folder.work()
+    time.sleep(10)
+    return folder.work() - before
+
+
 @contextlib.contextmanager
 def service(*words, payloads=None):
     """The folder of a service that runs, over a spool with these payloads or over a new one."""

@@ -38,7 +38,7 @@ from harness.cups import Cups
 from harness.programs import SERVICE
 from harness.service import Client, Folder, PIECE
 from ipp_client import Connection
-from measures import given_program, run_parts
+from measures import given_program, run_parts, worked
 
 CLIENTS = (1, 4, 16, 63)
 QUEUES = (1, 8)
@@ -53,11 +53,11 @@ MEBIBYTE = 1_048_576
 
 
 class RunningService:
-    """A service in a folder of its own, with `queues` queues and a spool of `size` bytes."""
+    """A service in a folder of its own, with `queues` queues and a spool of `size` bytes, and with these further words."""
 
-    def __init__(self, queues, seconds, program=None, size=67_108_864):
+    def __init__(self, queues, seconds, program=None, size=67_108_864, words=()):
         self.folder = Folder()
-        self.folder.size = size
+        self.folder.size, self.folder.words = size, list(words)
         if program:
             self.folder.write("programs", f"backend slow {program}\n")
         self.names = [f"q{number}" for number in range(queues)]
@@ -248,9 +248,7 @@ def work():
 
 
 def work_of(service):
-    before = service.folder.work()
-    time.sleep(10)
-    return service.folder.work() - before
+    return worked(service.folder)
 
 
 def memory():

@@ -33,7 +33,7 @@ from harness.checks import print_times, timed
 from harness.files import write
 from harness.programs import ended, SCRIPTS, SERVICE
 from harness.service import Client, Folder
-from measures import given_program, service
+from measures import given_program, service, worked
 
 QUEUES = 64
 COUNTS = (1_000, 10_000, 100_000)
@@ -182,9 +182,7 @@ def idle_work():
         folder.queue(client, "q")
         client.until_state(client.submit("q"), "9")
         time.sleep(1)
-        before = folder.work()
-        time.sleep(10)
-        return folder.work() - before
+        return worked(folder)
 
 
 def with_real_children(program):

@@ -21,7 +21,6 @@ from harness.checks import holds, same, until
 from harness.files import read
 from harness.front import first_line, Front
 from harness.printers import Printer
-from harness.service import Client
 
 pytestmark = pytest.mark.needs("spool_service", "spool_front")
 
@@ -49,9 +48,7 @@ def is_clean(what, text):
 
 def office(folder):
     """A service with a job of a hostile client: the front of another, and that client."""
-    folder.start()
-    client = Client(folder)
-    folder.queue(client, "q")
+    client = folder.open("q")
     same("disable", client.ask("disable q\n"), "ok")
     same("info", client.ask(f'info q "{INFO}" "{INFO}"\n'), "ok")
     reply = client.ask(f'create q "{USER}" "{TITLE}" 1 50 "{OPTIONS}"\n')
@@ -145,9 +142,7 @@ def test_prints_errors(folder):
 
 
 def test_prints_names_of_files(folder):
-    folder.start()
-    client = Client(folder)
-    folder.queue(client, "q")
+    folder.open("q")
     text = Front(folder).fails("spool", "submit", "q", folder.at("no\u009b2J\u202efile"))
     is_clean("a file", text)
     holds(f"its name is shown: {text!r}", text.endswith("no\ufffd2J\ufffdfile: No such file or directory\n"))
@@ -184,9 +179,7 @@ def test_logs_standard_error(folder):
     said = "".join(f"{line}\n" for line in lines).encode() + b"bad \xff\xfe bytes\n"
     octal = "".join(f"\\{byte:03o}" for byte in said)
     folder.backend("loud", f"#!/bin/sh\nprintf '{octal}' >&2\nexit 1\n")
-    folder.start()
-    client = Client(folder)
-    folder.queue(client, "q", policy="abort-job", scheme="loud")
+    client = folder.open("q", policy="abort-job", scheme="loud")
     job = client.submit("q")
     client.until_ended([job], "8")
     text = read(folder.at("log")).decode()

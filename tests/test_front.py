@@ -13,7 +13,7 @@ from pathlib import Path
 import pytest
 
 from harness.checks import holds, LONGEST, same, until
-from harness.front import each_refused, first_line, Front, number_of
+from harness.front import each_refused, first_line, Front, in_browser, number_of
 from harness.printers import Printer, take
 from harness.programs import TOOLS
 from harness.service import Client, Folder, meanwhile, patient_client, TYPE
@@ -336,13 +336,11 @@ def test_status_page(folder, client, front):
 
 @pytest.mark.needs("chromium")
 def test_status_page_in_a_browser(folder, client, front):
-    """Debian's package chromium shows the page: its cells, and no markup of a title."""
+    """It shows the cells of the page, and no markup of a title."""
     client.create("q", "<script>document.title='run'</script><b>bold</b>")
     front.says("spool", "page", folder.at("page.html"))
-    words = ["--headless", "--no-sandbox", "--disable-gpu", f"--user-data-dir={folder.at('browser')}", "--dump-dom"]
-    shown = subprocess.run(["chromium", *words, f"file://{folder.at('page.html')}"], capture_output=True, timeout=LONGEST).stdout.decode()
-    holds("the title is a text", "&lt;b&gt;bold&lt;/b&gt;" in shown and "<title>Printers and jobs</title>" in shown)
-    same("rows", (shown.count("<tr"), shown.count("<script")), (4, 0))
+    shown = in_browser(folder, f"file://{folder.at('page.html')}")
+    same("title and rows", (shown.count("<title>Printers and jobs</title>"), shown.count("<tr")), (1, 4))
 
 
 def test_status_watch(client, front):

@@ -140,14 +140,9 @@ def played(folder, connections, status, output="", patience=3, document=b"abc", 
     return service
 
 
-@pytest.mark.parametrize("connections, status, output", SUBMISSIONS.values(), ids=SUBMISSIONS)
-def test_submission(folder, connections, status, output):
-    played(folder, connections, status, output)
-
-
-@pytest.mark.parametrize("connections, status, output", GIVEN_UP.values(), ids=GIVEN_UP)
-def test_given_up(folder, connections, status, output):
-    played(folder, connections, status, output, patience=1)
+@pytest.mark.parametrize("name", [*SUBMISSIONS, *GIVEN_UP])
+def test_submission(folder, name):
+    played(folder, *{**SUBMISSIONS, **GIVEN_UP}[name], patience=1 if name in GIVEN_UP else 3)
 
 
 # ---- a long piece, which two commands send together
@@ -183,14 +178,6 @@ for size in (SECOND, 7):
     LONG_SUBMISSIONS[f"lost with {size} bytes"] = ([[(SENDS_FIRST, None)], [*asked(shown(size)), CANCELED]], 1, GIVES_UP)
 
 
-@pytest.mark.parametrize("connections, status, output", LONG_SUBMISSIONS.values(), ids=LONG_SUBMISSIONS)
-def test_long_submission(folder, connections, status, output):
-    first, *others = connections
-    service = played(folder, [[CREATED, *first], *others], status, output, document=LONG)
-    if connections == [[*BOTH, *REST]]:
-        same("the bytes", service.bytes, LONG)
-
-
 # A document of one long piece: two commands and the close are sent together.
 WHOLE = bytes(range(256)) * 511 + bytes(255)
 AT_END = f'closeat 5 {FIRST + SECOND} "doc"'
@@ -220,12 +207,14 @@ WHOLE_SUBMISSIONS = {
 }
 
 
-@pytest.mark.parametrize("connections, status, output", WHOLE_SUBMISSIONS.values(), ids=WHOLE_SUBMISSIONS)
-def test_whole_submission(folder, connections, status, output):
-    first, *others = connections
-    service = played(folder, [[CREATED, *first], *others], status, output, document=WHOLE)
-    if connections == [ALL]:
-        same("the bytes", service.bytes, WHOLE)
+@pytest.mark.parametrize("document, cases, name", [
+    *((LONG, LONG_SUBMISSIONS, name) for name in LONG_SUBMISSIONS), *((WHOLE, WHOLE_SUBMISSIONS, name) for name in WHOLE_SUBMISSIONS),
+], ids=lambda word: word if isinstance(word, str) else len(word))
+def test_long_submission(folder, document, cases, name):
+    (first, *others), status, output = cases[name]
+    service = played(folder, [[CREATED, *first], *others], status, output, document=document)
+    if [first, *others] in ([[*BOTH, *REST]], [ALL]):
+        same("the bytes", service.bytes, document)
 
 
 @pytest.mark.parametrize("length", [1, 65_535, 65_536, 65_537, 131_070, 131_071, 131_072, 131_073, 262_142, 262_143])
@@ -249,7 +238,7 @@ def test_last_piece(folder, length):
     same("the bytes of a file", played(folder, [steps], 0, ACCEPTED, document=document).bytes, document)
     for cut in (1, length // 2, length - 1):
         service = Played(folder, [steps])
-        child = subprocess.Popen(Front(folder, 3).command(["spool", "submit", "q", "-"]), stdin=subprocess.PIPE, stdout=subprocess.PIPE, stderr=subprocess.PIPE, env=Front(folder, 3).environment)
+        child = Front(folder, 3).start("spool", "submit", "q", "-", stdin=subprocess.PIPE)
         for part in (document[:cut], document[cut:]):
             child.stdin.write(part)
             child.stdin.flush()

@@ -6,15 +6,14 @@ examines the folder at the moment of `made`. No folder is left, whatever happens
 import json
 import os
 import secrets
-import socket
 import stat
 import subprocess
-import threading
 
 import pytest
 
 from harness.checks import holds, LONGEST, same
 from harness.front import each_refused, Front
+from harness.printers import Serving
 from harness.service import listening, TYPE
 
 pytestmark = pytest.mark.needs("spool_service", "spool_front")
@@ -24,7 +23,7 @@ OLDER = "error syntax\n"
 WHERE = "see spool_service(8), Roles)"
 
 
-class Service:
+class Service(Serving):
     """A simulated service. `replies` has a reply for each prefix of a command; one that is a list has a reply for each time.
 
     `proof` is the reply to `i-am`: a text, None to close the connection, or True for the path of a new name in the folder `proof`. `made` is
@@ -33,6 +32,7 @@ class Service:
     """
 
     def __init__(self, folder, replies, proof=True, made="ok user ann\n", takes=True, path=None):
+        super().__init__(listening(folder.socket))
         self.proof, self.made, self.takes, self.path = proof, made, takes, path
         self.replies = {word: list(reply) if isinstance(reply, list) else reply for word, reply in replies.items()}
         self.heard, self.seen, self.faults, self.trips = [], [], [], 0
@@ -40,18 +40,7 @@ class Service:
         if not os.path.isdir(self.parent):
             os.mkdir(self.parent)
             os.chmod(self.parent, 0o1733)
-        self.listener = listening(folder.socket)
         os.chmod(folder.socket, 0o666)
-        self.accepting = threading.Thread(target=self.accept, daemon=True)
-        self.accepting.start()
-
-    def accept(self):
-        while True:
-            try:
-                line, _ = self.listener.accept()
-            except OSError:
-                return
-            threading.Thread(target=self.serve, args=(line,), daemon=True).start()
 
     def serve(self, line):
         line.settimeout(LONGEST)
@@ -126,23 +115,16 @@ class Service:
         if self.takes:
             os.rmdir(self.path)
 
-    def left(self):
-        return os.listdir(self.parent)
-
-    def end(self):
-        # A thread that still waits would accept the clients of the next service, whose descriptor may be the same.
-        self.listener.shutdown(socket.SHUT_RDWR)
-        self.accepting.join(LONGEST)
-        self.listener.close()
+    def __exit__(self, *fault):
+        super().__exit__()
         same("faults of the service", self.faults, [])
-        same("folders that are left", self.left(), [])
+        same("folders that are left", os.listdir(self.parent), [])
 
 
 def served(folder, words, replies, output=None, status=0, patience=2, text=b"", mask=-1, **more):
     """A simulated service that has ended, once it has served a command that ends with `status`, and prints this output."""
-    service, front = Service(folder, replies, **more), Front(folder, patience)
-    ended = front.run(*words.split(), text=text, umask=mask)
-    service.end()
+    with Service(folder, replies, **more) as service:
+        ended = Front(folder, patience).run(*words.split(), text=text, umask=mask)
     service.output = (ended.stdout + ended.stderr).decode()
     same(f"status of {words}, with the output {service.output!r}", ended.returncode, status)
     if output is not None:
@@ -229,9 +211,8 @@ def test_leaves_nothing_without_memory(folder, takes, made):
     """Each allocation is refused in turn, with a service that takes the proof and one that does not."""
     front = Front(folder, 2)
     for refused, environment in each_refused(folder):
-        service = Service(folder, {"stop 7": "ok\n"}, takes=takes, made=made)
-        ended = front.run("spool", "cancel", "7", environment=environment)
-        service.end()
+        with Service(folder, {"stop 7": "ok\n"}, takes=takes, made=made):
+            ended = front.run("spool", "cancel", "7", environment=environment)
         holds(f"allocation {refused}, status {ended.returncode}: {ended.stderr!r}", ended.returncode in (0, 1))
         holds(f"allocation {refused}: {ended.stderr!r}", ended.returncode == 0 or b"memory" in ended.stderr)
     same("status with all of it", ended.returncode, 0)

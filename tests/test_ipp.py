@@ -12,20 +12,14 @@ import pytest
 from harness.checks import holds, same, until
 from harness.cups import Cups
 from harness.ipp import (
-    BOOLEAN, CANCEL_JOB, CREATE_JOB, Connection, GET_JOB, GET_JOBS, GET_PRINTER, INTEGER, JOB, KEYWORD, MIME, NAME, PAUSE_PRINTER,
-    PRINT_JOB, RELEASE_JOB, SEND_DOCUMENT, VALIDATE_JOB, attribute, head_of, job_of, message,
+    attribute, BAD, BOOLEAN, CANCEL_JOB, Connection, CREATE_JOB, FORBIDDEN, GET_JOB, GET_JOBS, GET_PRINTER, head_of, INTEGER, JOB, job_of,
+    KEYWORD, LAST, message, MIME, NAME, NO_OPERATION, NOT_AUTHORIZED, NOT_FOUND, NOT_POSSIBLE, OK, PAUSE_PRINTER, PRINT_JOB, RELEASE_JOB,
+    SEND_DOCUMENT, VALIDATE_JOB, VALUES, VERSION,
 )
-from harness.service import Client, kept
+from harness.service import all_kept, Client, kept
 from harness.stock_documents import JPEG, pdf, postscript, TEXT
 
 pytestmark = pytest.mark.needs("spool_ipp")
-
-# Some statuses (RFC 8011, appendix B).
-OK, BAD, FORBIDDEN, NOT_AUTHORIZED, NOT_POSSIBLE, NOT_FOUND, FORMAT, VALUES, NO_OPERATION, VERSION, TEMPORARY = (
-    0x0000, 0x0400, 0x0401, 0x0403, 0x0404, 0x0406, 0x040A, 0x040B, 0x0501, 0x0503, 0x0505,
-)
-
-LAST = attribute(BOOLEAN, "last-document", True)
 
 # The most clients that are served at once, and the most jobs that wait for their next documents.
 PLACES, MOST_WAITING = 64, 1_024
@@ -518,9 +512,8 @@ def test_service_killed_within_documents(folder, ipp):
                 folder.start()
             answers(line, b"\0\0")
             told[number] = data[:100_000]
-    until("all", lambda: sum(name.startswith("kept-") and not name.endswith(".new") for name in os.listdir(folder.path)) >= len(told))
-    found = sorted(kept(folder, name[5:]) for name in os.listdir(folder.path) if name.startswith("kept-"))
-    same("the documents", found, sorted(told.values()))
+    until("all", lambda: len(all_kept(folder)) >= len(told))
+    same("the documents", all_kept(folder), sorted(told.values()))
 
 
 @pytest.mark.long

@@ -1,38 +1,29 @@
 """Tests of the commands that the IPP front sends together: the last piece of a document, its close, and the command for the answer."""
 import contextlib
-import os
 import re
 import select
 import socket
-import subprocess
 import time
-from pathlib import Path
 
 import pytest
 
 from harness.between import Between, LOST_AFTER, LOST_BEFORE
 from harness.checks import at_once, holds, LONGEST, same, until
 from harness.ipp import (
-    attribute, BOOLEAN, Connection, CREATE_JOB, GET_JOB, GET_JOBS, INTEGER, Ipp, job_of, KEYWORD, message, NAME, PRINT_JOB, read,
-    SEND_DOCUMENT,
+    attribute, BOOLEAN, Connection, CREATE_JOB, GET_JOB, GET_JOBS, INTEGER, Ipp, job_of, KEYWORD, LAST, message, NAME, NOT_AUTHORIZED, OK,
+    PRINT_JOB, read, SEND_DOCUMENT,
 )
-from harness.service import Client, kept, KEEPS, listening
+from harness.service import all_kept, Client
 
 pytestmark = pytest.mark.needs("spool_ipp")
 
-OK, NOT_AUTHORIZED = 0x0000, 0x0403
-LAST = attribute(BOOLEAN, "last-document", True)
 BATCH = ["send", "closeat", "job"]
 
 
 @contextlib.contextmanager
 def between(folder, rule=lambda word: None):
     """The front of a service, and the proxy between them."""
-    folder.backend("keeps", KEEPS)
-    folder.open("q", scheme="keeps")
-    front = Ipp(folder)
-    front.service = folder.at("between.sock")
-    with listening(front.service) as listener, Between(listener, folder, rule) as proxy, front:
+    with Ipp.behind(folder, lambda listener: Between(listener, folder, rule)) as (front, proxy), front:
         yield front, proxy
 
 
@@ -51,13 +42,9 @@ class Once:
 
 def is_printed_once(folder, data):
     """Exactly one job is printed, with this document."""
-    until("the document is printed", lambda: [name for name in os.listdir(folder.path) if is_kept(name)])
+    until("the document is printed", lambda: all_kept(folder))
     until("the job has ended", lambda: all(state.startswith(("7", "8", "9")) for state in Client(folder).states().values()))
-    same("the documents", [kept(folder, name[5:]) for name in os.listdir(folder.path) if is_kept(name)], [data])
-
-
-def is_kept(name):
-    return name.startswith("kept-") and not name.endswith(".new")
+    same("the documents", all_kept(folder), [data])
 
 
 # ---- commands that are sent together
@@ -111,15 +98,21 @@ def test_end_that_comes_later(folder):
         is_printed_once(folder, b"late")
 
 
-# ---- connections that are lost
+# ---- connections that are lost, and refusals
+
+def prints_once(folder, rule, commands=None):
+    """A document is printed once whatever the rule answers, and the client is told so. `commands` are those after the creation of the job."""
+    with between(folder, rule) as (front, proxy):
+        same("status", front.ask(PRINT_JOB, document=b"whole")[0], OK)
+        same("the commands", proxy.together[2:], commands or proxy.together[2:])
+        is_printed_once(folder, b"whole")
+
 
 @pytest.mark.parametrize("lost", [LOST_BEFORE, LOST_AFTER])
 @pytest.mark.parametrize("word", ["queue", "create", *BATCH])
 def test_lost_at_each_command(folder, word, lost):
-    """The connection to the service is lost before or after each command: the document is printed once, and the client is told so."""
-    with between(folder, Once(word, lost)) as (front, proxy):
-        same("status", front.ask(PRINT_JOB, document=b"whole")[0], OK)
-        is_printed_once(folder, b"whole")
+    """The connection to the service is lost before or after each command."""
+    prints_once(folder, Once(word, lost))
 
 
 @pytest.mark.parametrize("lost", [LOST_BEFORE, LOST_AFTER])
@@ -132,14 +125,26 @@ def test_killed_at_each_command(folder, word, lost):
         folder.start()
         return LOST_BEFORE
 
-    def kill_after():
-        # The command is executed by a connection of its own: the next commands of the front have no other effect than this one.
-        return LOST_AFTER
+    # After LOST_AFTER the command was executed by a connection of its own: the next commands of the front have no other effect than this one.
+    prints_once(folder, Once(word, kill) if lost == LOST_BEFORE else Once(word, LOST_AFTER, kill))
 
-    rule = Once(word, kill) if lost == LOST_BEFORE else Once(word, kill_after, kill)
-    with between(folder, rule) as (front, proxy):
-        same("status", front.ask(PRINT_JOB, document=b"whole")[0], OK)
-        is_printed_once(folder, b"whole")
+
+ALONE = [BATCH, ["close"], ["job"]]
+
+
+@pytest.mark.parametrize("word, replies, commands", [
+    # A piece that the service puts off is sent again with its close.
+    ("send", [b"error full\n"] * 2, [BATCH] * 3),
+    ("send", [b"error memory\n"] * 2, [BATCH] * 3),
+    # A close that the service refuses after the piece is sent again, alone.
+    ("closeat", [b"error full\n"], ALONE),
+    ("closeat", [b"error memory\n"], ALONE),
+    ("closeat", [b"error size\n"], ALONE),
+    # After an unclear reply to the close the state of the job is asked for.
+    ("closeat", [b"error disk\n"], None),
+])
+def test_refused_and_sent_again(folder, word, replies, commands):
+    prints_once(folder, Once(word, *replies), commands)
 
 
 def test_client_gone_before_the_replies(folder):
@@ -153,26 +158,6 @@ def test_client_gone_before_the_replies(folder):
     with between(folder, Once("closeat", leave)) as (front, proxy):
         leaving.append(Connection(front.connect()))
         leaving[0].post(message(PRINT_JOB, front.uri()) + b"whole")
-        is_printed_once(folder, b"whole")
-
-
-# ---- refusals
-
-@pytest.mark.parametrize("error", [b"error full\n", b"error memory\n"])
-def test_put_off(folder, error):
-    """A piece that the service puts off is sent again with its close."""
-    with between(folder, Once("send", error, error)) as (front, proxy):
-        same("status", front.ask(PRINT_JOB, document=b"whole")[0], OK)
-        same("the commands", proxy.together[2:], [BATCH] * 3)
-        is_printed_once(folder, b"whole")
-
-
-@pytest.mark.parametrize("error", [b"error full\n", b"error memory\n", b"error size\n"])
-def test_close_refused(folder, error):
-    """A close that the service refuses after the piece is sent again, alone."""
-    with between(folder, Once("closeat", error)) as (front, proxy):
-        same("status", front.ask(PRINT_JOB, document=b"whole")[0], OK)
-        same("the commands", proxy.together[2:], [BATCH, ["close"], ["job"]])
         is_printed_once(folder, b"whole")
 
 
@@ -192,13 +177,6 @@ def test_refused(folder):
         same("the job", Client(folder).state(1)[:1], "7")
 
 
-def test_unclear_close(folder):
-    """After an unclear reply to the close the state of the job is asked for."""
-    with between(folder, Once("closeat", b"error disk\n")) as (front, proxy):
-        same("status", front.ask(PRINT_JOB, document=b"whole")[0], OK)
-        is_printed_once(folder, b"whole")
-
-
 def test_unshown_job(folder):
     """A job that was accepted is answered with success though the service does not show it."""
     with between(folder, Once("job", b"error job\n")) as (front, proxy):
@@ -209,26 +187,14 @@ def test_unshown_job(folder):
 
 # ---- output that waits
 
-@contextlib.contextmanager
-def traced(front, folder):
-    """The calls of the front on readiness, and its writes to connections, in a list that is filled at the end."""
-    calls, path = [], folder.at("trace")
-    words = ["strace", "-f", "-e", "trace=epoll_wait,epoll_ctl,sendto", "-o", path, "-p", str(front.running.pid)]
-    with subprocess.Popen(words, stderr=subprocess.PIPE) as tracer:
-        holds("it is traced", b"attached" in tracer.stderr.readline())
-        yield calls
-        tracer.terminate()
-        tracer.stderr.read()
-    calls += Path(path).read_text().splitlines()
-
-
 @pytest.mark.strace
 def test_slow_reader(folder, ipp):
     """A connection is watched for writing only while an answer waits, which does not fit into its buffer, until the rest is written."""
     Client(folder).does("disable q")
     name = attribute(NAME, "job-name", "n" * 250)
     at_once([lambda: [ipp.ask(PRINT_JOB, name, document=b"x") for _ in range(60)]] * 4)
-    with traced(ipp, folder) as calls, Connection(socket.socket(socket.AF_UNIX)) as line:
+    words = ["-f", "-e", "trace=epoll_wait,epoll_ctl,sendto"]
+    with folder.traced(*words, process=ipp.running.pid), Connection(socket.socket(socket.AF_UNIX)) as line:
         line.connection.settimeout(LONGEST)
         line.connection.connect(ipp.local)
         line.post(message(GET_JOBS, ipp.uri(), attribute(KEYWORD, "requested-attributes", "all")))
@@ -237,6 +203,7 @@ def test_slow_reader(folder, ipp):
         status, content = line.reply()
         same("jobs", (status, len(read(content)[1])), (200, 241))
         same("another", line.ask(message(GET_JOB, ipp.uri(), attribute(INTEGER, "job-id", 1)))[0], OK)
+    calls = folder.read("calls").splitlines()
     changes = [re.search(r"EPOLL_CTL_MOD.*events=([A-Z|]*)", call) for call in calls]
     changes = ["EPOLLOUT" in change[1] for change in changes if change]
     holds(f"changes {changes}", changes and changes == [True, False] * (len(changes) // 2))
@@ -255,5 +222,5 @@ def test_slow_service(folder):
     with between(folder, Once("send", pause, pause)) as (front, proxy):
         documents = [bytes([65 + number]) * 60_000 for number in range(12)]
         at_once([lambda data=data: same("status", front.ask(PRINT_JOB, document=data)[0], OK) for data in documents])
-        until("all", lambda: sum(map(is_kept, os.listdir(folder.path))) == len(documents))
-        same("the documents", sorted(kept(folder, name[5:]) for name in os.listdir(folder.path) if is_kept(name)), documents)
+        until("all", lambda: len(all_kept(folder)) == len(documents))
+        same("the documents", all_kept(folder), documents)

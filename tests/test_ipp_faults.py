@@ -13,27 +13,21 @@ import pytest
 
 from harness.checks import at_once, Difference, holds, LONGEST, same, timed, until
 from harness.cutter import Cutter, REPLIES, REQUESTS
+from harness.front import in_browser
 from harness.ipp import (
-    attribute, BOOLEAN, CANCEL_JOB, Connection, CREATE_JOB, GET_JOB, GET_JOBS, GET_PRINTER, INTEGER, Ipp, job_of, KEYWORD, message, MIME,
-    NAME, PRINT_JOB, read, SEND_DOCUMENT, VALIDATE_JOB,
+    attribute, CANCEL_JOB, Connection, CREATE_JOB, GET_JOB, GET_JOBS, GET_PRINTER, INTEGER, Ipp, job_of, KEYWORD, LAST, message, MIME,
+    NAME, OK, PRINT_JOB, read, SEND_DOCUMENT, VALIDATE_JOB,
 )
-from harness.service import Client, kept, KEEPS, listening, MOST_DELAY, SLACK
+from harness.service import all_kept, Client, kept, MOST_DELAY, SLACK
 
 pytestmark = pytest.mark.needs("spool_ipp")
 
-OK = 0
-LAST = attribute(BOOLEAN, "last-document", True)
 
-
-def documents(folder):
-    """How many jobs have been printed with each document."""
-    return Counter(kept(folder, name[5:]) for name in os.listdir(folder.path) if name.startswith("kept-") and not name.endswith(".new"))
-
-
-def at_rest(folder):
-    """Waits until no job is printed or is about to be."""
+def documents_at_rest(folder):
+    """Waits until no job is printed or is about to be. Returns how many jobs have been printed with each document."""
     client = Client(folder)
     until("all jobs have ended", lambda: not any(state.startswith(("3", "5")) for state in client.states().values()))
+    return Counter(all_kept(folder))
 
 
 def answered(line, body):
@@ -67,12 +61,16 @@ def print_by_two(ipp, line, data):
     return sent[0] == OK
 
 
-def cuts(cutter, act, is_long, some):
-    """Each place of a cut in what `act` sends and receives, or some of them: a direction, and the bytes before the cut."""
-    before = dict(cutter.passed)
-    act()
+def told_at_cuts(cutter, prints, is_long):
+    """Prints a document while each connection is cut, at each byte that a document takes or at some. Returns what `prints` says of each."""
+    before, whole = dict(cutter.passed), text_of("whole", 0)
+    told = {whole: prints(whole)}
     for side in (REQUESTS, REPLIES):
-        yield from ((side, count) for count in range(0, cutter.passed[side] - before[side] + 4, 1 if is_long else some))
+        for count in range(0, cutter.passed[side] - before[side] + 4, 1 if is_long else 61):
+            cutter.cut(side, count)
+            told[text_of(side, count)] = prints(text_of(side, count))
+    cutter.cut(None, 0)
+    return told
 
 
 def text_of(side, count):
@@ -84,24 +82,21 @@ def text_of(side, count):
 @pytest.mark.parametrize("act", [print_at_once, print_by_two])
 def test_cut_between_client_and_front(folder, ipp, is_long, act, end):
     """Each acknowledged document is printed once and each other one at most once, wherever the connection is cut. None is printed in part."""
-    told = {}
 
-    def print_it(data):
+    def prints(data):
         with Connection(socket.create_connection(listener.getsockname(), timeout=LONGEST)) as line:
-            told[data] = act(ipp, line, data)
+            return act(ipp, line, data)
 
     with socket.create_server(("127.0.0.1", 0)) as listener, Cutter(listener, ipp.connect, end == "reset") as cutter:
-        for side, count in cuts(cutter, lambda: print_it(text_of("whole", 0)), is_long, 61):
-            cutter.cut(side, count)
-            print_it(text_of(side, count))
+        told = told_at_cuts(cutter, prints, is_long)
     same("the front serves", ipp.ask(GET_PRINTER)[0], OK)
     ipp.stop()
-    at_rest(folder)
-    judge(documents(folder), told)
+    judge(folder, told)
 
 
-def judge(found, told):
-    """The documents that were found, and whether each that was sent was acknowledged."""
+def judge(folder, told):
+    """The documents that were printed, and whether each that was sent was acknowledged."""
+    found = documents_at_rest(folder)
     print(f"{len(told)} documents, {sum(told.values())} acknowledged, {sum(found.values())} printed")
     same("documents that nobody sent", set(found) - set(told), set())
     same("documents that were printed again", {data: count for data, count in found.items() if count > 1}, {})
@@ -111,22 +106,14 @@ def judge(found, told):
 @pytest.mark.parametrize("act", [print_at_once, print_by_two])
 def test_cut_between_front_and_service(folder, is_long, act):
     """The front connects again and continues: each document is acknowledged and printed once, wherever its connection to the service is cut."""
-    folder.backend("keeps", KEEPS)
-    folder.open("q", scheme="keeps")
-    front, told = Ipp(folder), {}
-    front.service = folder.at("between.sock")
 
-    def print_it(data):
+    def prints(data):
         with Connection(front.connect()) as line:
-            told[data] = act(front, line, data)
+            return act(front, line, data)
 
-    with listening(front.service) as listener, Cutter(listener, lambda: Client(folder).connection) as cutter, front:
-        for side, count in cuts(cutter, lambda: print_it(text_of("whole", 0)), is_long, 61):
-            cutter.cut(side, count)
-            print_it(text_of(side, count))
-        cutter.cut(None, 0)
-        at_rest(folder)
-        judge(documents(folder), told)
+    with Ipp.behind(folder, lambda listener: Cutter(listener, lambda: Client(folder).connection)) as (front, cutter), front:
+        told = told_at_cuts(cutter, prints, is_long)
+        judge(folder, told)
         same("documents that were refused", {data for data, is_told in told.items() if not is_told}, set())
 
 
@@ -201,8 +188,7 @@ def test_killed_at_random(folder, ipp, seed, is_long):
     with Killer(folder, ipp, seed, found) as killer:
         at_once([lambda n=n: print_some(folder, ipp, numbers, seed + n, found) for n in range(4)])
     ipp.stop()
-    at_rest(folder)
-    printed, lost = documents(folder), 0
+    printed, lost = documents_at_rest(folder), 0
     for data, ran, began, ended in found:
         holds(f"{data[:20]} was printed {printed[data]} times: {ran}", printed[data] <= 1)
         if ran.returncode == 0 and not printed[data]:
@@ -380,9 +366,7 @@ def test_thousands_of_connections(ipp, is_long):
 
 @pytest.mark.needs("chromium")
 def test_page_in_a_browser(folder, ipp):
-    """Debian's package chromium shows the page that the front serves: its cells, and no markup of a title."""
+    """It shows the cells of the page that the front serves, and no markup of a title."""
     ipp.lp("-d", "q", "-t", "<script>document.title='run'</script><b>bold</b>", "-H", "indefinite", data=b"x")
-    words = ["--headless", "--no-sandbox", "--disable-gpu", f"--user-data-dir={folder.at('browser')}", "--dump-dom"]
     for path in ("/", "/printers/q"):
-        shown = subprocess.run(["chromium", *words, f"http://{ipp.address}{path}"], capture_output=True, timeout=LONGEST).stdout.decode()
-        holds(shown, "&lt;b&gt;bold&lt;/b&gt;" in shown and "<script" not in shown)
+        in_browser(folder, f"http://{ipp.address}{path}")

@@ -148,6 +148,4 @@ def test_a_refused_command_among_others(folder):
     replies = [client.reply() for _ in range(5)]
     same("the refusals", [replies[0][:6], replies[4][:6]], ["error ", "error "])
     same("the others", [reply.split()[0] for reply in replies[1:4]], ["ok"] * 3)
-    folder.kill()
-    folder.start()
-    same("after a kill", Client(folder).fields(job)["size"], "6")
+    same("after a kill", folder.reopen().fields(job)["size"], "6")

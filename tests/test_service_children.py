@@ -170,8 +170,7 @@ def test_a_child_that_asks_while_it_runs(folder):
     """The side channels are served together with the clients: a child that waits for an answer does not hang."""
     with_side_channels(folder)
     folder.backend("asks", ASKS)
-    client = folder.open()
-    folder.queue(client, "q", "o?state=7", "abort-job", scheme="asks")
+    client = folder.open("q", seconds="o?state=7", policy="abort-job", scheme="asks")
     client.until_state(client.submit("q"), "9")
 
 

@@ -145,9 +145,7 @@ def test_an_end_of_text(folder):
 
 def test_a_line_cut_from_a_longer_one(folder):
     """A client that hangs up after the first bytes of `cancel 12` has not cancelled job 1."""
-    client, other = folder.open(), Client(folder)
-    folder.queue(other, "q")
-    other.does("disable q")
+    client, other = folder.open("q", stopped=True), Client(folder)
     same("the job", other.create("q"), 1)
     client.say("jobs\ncancel 1")
     client.connection.shutdown(socket.SHUT_WR)
@@ -176,10 +174,8 @@ def conversation(job):
 
 def test_cut_at_each_byte(folder):
     """A session in two pieces, with another client's command between them, gets its replies wherever it is split."""
-    client, other = folder.open(), Client(folder)
-    folder.queue(other, "q")
     # No job starts by itself.
-    other.does("disable q")
+    client, other = folder.open("q", stopped=True), Client(folder)
     cut, job = 0, 1
     while cut <= len(text_of(conversation(job))):
         said = conversation(job)

@@ -11,7 +11,7 @@ import pytest
 from harness.checks import holds, same, until
 from harness.front import Front, number_of
 from harness.programs import compiled
-from harness.service import Client, moment_of, now_of
+from harness.service import moment_of, now_of
 
 pytestmark = pytest.mark.needs("gcc", "spool_front")
 
@@ -41,9 +41,7 @@ def start(folder):
 def again(folder, client):
     """Restarts the service."""
     client.close()
-    folder.kill()
-    folder.start()
-    return Client(folder)
+    return folder.reopen()
 
 
 def change(folder, name, seconds):

@@ -1,8 +1,7 @@
 """A proxy between a client of the service and the service, which sees each command and may answer it."""
 import select
-import socket
-import threading
 
+from harness.printers import Serving
 from harness.service import Client
 
 # What a rule may return in place of a reply: the connection is lost before the command, or after it.
@@ -19,31 +18,16 @@ def first_command(data):
     return data[: len(line) + 1 + length] if len(rest) >= length else None
 
 
-class Between:
+class Between(Serving):
     """Passes the commands of each connection to `listener` on to the service of a folder, each after the last one, during a `with`. `rule` is called with the
     first word of each, and returns None to pass it on, a reply, or how the connection is lost. `together` has the first words of the commands
     that came together.
     """
 
     def __init__(self, listener, folder, rule=lambda word: None):
-        self.listener, self.folder, self.rule = listener, folder, rule
+        super().__init__(listener)
+        self.folder, self.rule = folder, rule
         self.together = []
-
-    def __enter__(self):
-        threading.Thread(target=self.accept, daemon=True).start()
-        return self
-
-    def __exit__(self, *fault):
-        self.listener.shutdown(socket.SHUT_RDWR)
-        self.listener.close()
-
-    def accept(self):
-        while True:
-            try:
-                line, _ = self.listener.accept()
-            except OSError:
-                return
-            threading.Thread(target=self.serve, args=(line,), daemon=True).start()
 
     def serve(self, line):
         """Serves a connection until it ends or is lost."""

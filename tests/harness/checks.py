@@ -1,7 +1,9 @@
 """Comparisons, and waiting for events: one class for every difference."""
+import contextlib
 import functools
 import os
 import re
+import socket
 import threading
 import time
 
@@ -40,6 +42,14 @@ def holds(what, is_so):
     __tracebackhide__ = True
     if not is_so:
         raise Difference(what)
+
+
+def listens(path):
+    """Whether a program accepts connections to the socket with this path."""
+    with contextlib.suppress(OSError), socket.socket(socket.AF_UNIX) as probe:
+        probe.connect(path)
+        return True
+    return False
 
 
 def until(what, is_so, longest=LONGEST):

@@ -8,12 +8,11 @@ and cups-client, and must be run as root, because CUPS must start as root.
 import os
 import shutil
 import signal
-import socket
 import subprocess
 import tempfile
 import time
 
-from harness.checks import LONGEST
+from harness.checks import listens, LONGEST
 from harness.files import read, write
 from harness.ipp import free_port
 
@@ -89,7 +88,7 @@ class Cups:
         words = [CUPSD, "-f", "-c", paths[0], "-s", paths[1]]
         self.program = subprocess.Popen(words, stdout=subprocess.DEVNULL, stderr=subprocess.DEVNULL)
         end = time.time() + LONGEST
-        while not self.serves():
+        while not listens(self.socket):
             if self.program.poll() is not None or end < time.time():
                 self.__exit__()
                 raise OSError(f"CUPS does not start: {self.said()}")
@@ -108,14 +107,6 @@ class Cups:
 
     def write(self, name, text):
         return write(os.path.join(self.folder, name), text)
-
-    def serves(self):
-        try:
-            with socket.socket(socket.AF_UNIX) as probe:
-                probe.connect(self.socket)
-            return True
-        except OSError:
-            return False
 
     def said(self):
         return (read(os.path.join(self.folder, "error_log")) or b"").decode(errors="replace")[-2_000:]

@@ -2,44 +2,30 @@
 import contextlib
 import select
 import socket
-import struct
 import threading
 
 from harness.checks import until
+from harness.printers import reset, Serving
 
 # The two directions of a connection.
 REQUESTS, REPLIES = "requests", "replies"
 
 
-class Cutter:
+class Cutter(Serving):
     """Passes the bytes of each connection to `listener` on to one that `connect` makes, during a `with`. `cut` chooses where the next cut is, and
     `passed` counts the bytes of each direction. With `is_abrupt` a cut resets the connection.
     """
 
     def __init__(self, listener, connect, is_abrupt=False):
-        self.listener, self.connect, self.is_abrupt = listener, connect, is_abrupt
+        super().__init__(listener)
+        self.connect, self.is_abrupt = connect, is_abrupt
         self.lock = threading.Lock()
         self.side, self.left = None, 0
         self.passed = {REQUESTS: 0, REPLIES: 0}
-        self.clients = []
-
-    def __enter__(self):
-        threading.Thread(target=self.accept, daemon=True).start()
-        return self
 
     def __exit__(self, *fault):
-        self.listener.shutdown(socket.SHUT_RDWR)
+        super().__exit__()
         self.cut_all()
-        self.listener.close()
-
-    def accept(self):
-        while True:
-            try:
-                client, _ = self.listener.accept()
-            except OSError:
-                return
-            self.clients.append(client)
-            threading.Thread(target=self.serve, args=(client,), daemon=True).start()
 
     def serve(self, client):
         """Passes the bytes of a client and of its server on, until an end or the cut."""
@@ -48,7 +34,8 @@ class Cutter:
                 ways = {client: (REQUESTS, server), server: (REPLIES, client)}
                 while all(self.passes(source, *ways[source]) for source in select.select(list(ways), [], [])[0]):
                     pass
-                self.note_end(client, server)
+                for end in (client, server) if self.is_abrupt else ():
+                    reset(end)
         client.close()
         self.clients.remove(client)
 
@@ -63,12 +50,6 @@ class Cutter:
             self.passed[side] += allowed
         target.sendall(piece[:allowed])
         return bool(piece) and not is_cut
-
-    def note_end(self, *ends):
-        """The connections are reset when they are closed."""
-        if self.is_abrupt:
-            for end in ends:
-                end.setsockopt(socket.SOL_SOCKET, socket.SO_LINGER, struct.pack("ii", 1, 0))
 
     def cut(self, side, count):
         """Cuts the connection after this number of further bytes of this direction, or not at all."""

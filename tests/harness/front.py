@@ -54,7 +54,8 @@ class Front:
         return self.ended(*words, status=status, **more).stderr.decode()
 
     def start(self, *words, **more):
-        return subprocess.Popen(self.command(words), stdin=subprocess.DEVNULL, stdout=subprocess.PIPE, stderr=subprocess.PIPE, env=self.environment, **more)
+        streams = {"stdin": subprocess.DEVNULL, "stdout": subprocess.PIPE, "stderr": subprocess.PIPE, **more}
+        return subprocess.Popen(self.command(words), env=self.environment, **streams)
 
     @contextlib.contextmanager
     def watching(self, *words):
@@ -87,6 +88,14 @@ class Front:
             text += piece
         os.close(ours)
         return text.decode(), child.wait(LONGEST)
+
+
+def in_browser(folder, address):
+    """The page that Debian's package chromium shows, which has the title of a hostile client as a text."""
+    words = ["--headless", "--no-sandbox", "--disable-gpu", f"--user-data-dir={folder.at('browser')}", "--dump-dom"]
+    shown = subprocess.run(["chromium", *words, address], capture_output=True, timeout=LONGEST).stdout.decode()
+    holds(shown, "&lt;b&gt;bold&lt;/b&gt;" in shown and "<script" not in shown)
+    return shown
 
 
 def first_line(child, change):

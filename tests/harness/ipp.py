@@ -1,11 +1,13 @@
 """The IPP front of a service in the folder of a test, its clients, and the messages that they send."""
+import contextlib
 import os
 import socket
 import struct
 import subprocess
 
-from harness.checks import holds, LONGEST, same, until
+from harness.checks import holds, listens, LONGEST, same, until
 from harness.programs import IPP
+from harness.service import listening
 
 # The tags of groups and values that tests use (RFC 8010, 3.5).
 OPERATION, JOB, END = 1, 2, 3
@@ -13,7 +15,11 @@ INTEGER, BOOLEAN, ENUM, NAME, KEYWORD, URI, CHARSET, LANGUAGE, MIME = 0x21, 0x22
 
 # The numbers of operations (RFC 8011, 5.4.15).
 PRINT_JOB, VALIDATE_JOB, CREATE_JOB, SEND_DOCUMENT, CANCEL_JOB, GET_JOB, GET_JOBS, GET_PRINTER = 2, 4, 5, 6, 8, 9, 10, 11
-HOLD_JOB, RELEASE_JOB, PAUSE_PRINTER = 12, 13, 16
+RELEASE_JOB, PAUSE_PRINTER = 13, 16
+
+# Some statuses (RFC 8011, appendix B).
+OK, BAD, FORBIDDEN, NOT_AUTHORIZED, NOT_POSSIBLE, NOT_FOUND = 0x0000, 0x0400, 0x0401, 0x0403, 0x0404, 0x0406
+VALUES, NO_OPERATION, VERSION = 0x040B, 0x0501, 0x0503
 
 
 def free_port():
@@ -34,6 +40,16 @@ class Ipp:
         self.words = list(words)
         self.running = None
 
+    @classmethod
+    @contextlib.contextmanager
+    def behind(cls, folder, proxy):
+        """A front whose connections to the service pass through a proxy, which `proxy` makes of the socket that listens, and this proxy."""
+        folder.open("q", scheme="keeps")
+        front = cls(folder)
+        front.service = folder.at("between.sock")
+        with listening(front.service) as listener, proxy(listener) as made:
+            yield front, made
+
     def start(self):
         words = ["--service", self.service, "--listen", self.address, "--socket", self.local, "--operators-socket", self.operators]
         with open(self.folder.at("ipp.log"), "ab") as log:
@@ -42,13 +58,8 @@ class Ipp:
 
     def serves(self):
         same("the front", self.running.poll(), None)
-        try:
-            # It listens there last.
-            with socket.socket(socket.AF_UNIX) as probe:
-                probe.connect(self.operators)
-            return True
-        except OSError:
-            return False
+        # It listens there last.
+        return listens(self.operators)
 
     def connect(self):
         return socket.create_connection(("127.0.0.1", self.port), timeout=LONGEST)
@@ -165,6 +176,9 @@ def attribute(tag, name, *values):
         shown = b"" if at else name.encode()
         out += struct.pack(">BH", tag, len(shown)) + shown + struct.pack(">H", len(data)) + data
     return out
+
+
+LAST = attribute(BOOLEAN, "last-document", True)
 
 
 def message(operation, uri, *attributes, user="anna", version=(1, 1), number=1, job=()):

@@ -37,6 +37,30 @@ class Printer(threading.Thread):
         return self.got
 
 
+class Serving:
+    """Serves each connection to `listener` by `serve`, in a thread of its own, during a `with`. `clients` has all that were accepted."""
+
+    def __init__(self, listener):
+        self.listener, self.clients = listener, []
+
+    def __enter__(self):
+        self.accepting = threading.Thread(target=self.accept, daemon=True)
+        self.accepting.start()
+        return self
+
+    def __exit__(self, *fault):
+        # A thread that still waits would accept the clients of the next listener, whose descriptor may be the same.
+        self.listener.shutdown(socket.SHUT_RDWR)
+        self.accepting.join(LONGEST)
+        self.listener.close()
+
+    def accept(self):
+        with contextlib.suppress(OSError):
+            while True:
+                self.clients.append(self.listener.accept()[0])
+                threading.Thread(target=self.serve, args=(self.clients[-1],), daemon=True).start()
+
+
 def take(connection, most=1 << 30):
     """The data on a connection up to its end, or up to `most` bytes of it."""
     taken = bytearray()

@@ -348,11 +348,12 @@ class Folder(Place):
         self.running.send_signal(signal.SIGCONT)
 
     @contextlib.contextmanager
-    def traced(self, *words):
-        """The service is traced meanwhile by strace with these words, which writes its calls to the file `calls`."""
-        command = ["strace", "-y", "-qq", "-o", self.at("calls"), *words, "-p", str(self.running.pid)]
+    def traced(self, *words, process=None):
+        """The service, or another program, is traced meanwhile by strace with these words, which writes its calls to the file `calls`."""
+        process = process or self.running.pid
+        command = ["strace", "-y", "-qq", "-o", self.at("calls"), *words, "-p", str(process)]
         with subprocess.Popen(command, stderr=subprocess.DEVNULL) as strace:
-            until("the trace", lambda: b"TracerPid:\t0\n" not in open(f"/proc/{self.running.pid}/status", "rb").read())
+            until("the trace", lambda: b"TracerPid:\t0\n" not in open(f"/proc/{process}/status", "rb").read())
             try:
                 yield
             finally:
@@ -487,6 +488,11 @@ PIECE = 65_536
 
 def kept(folder, job):
     return Path(folder.at(f"kept-{job}")).read_bytes()
+
+
+def all_kept(folder):
+    """All documents that the backend has kept, sorted."""
+    return sorted(path.read_bytes() for path in Path(folder.path).glob("kept-*") if path.suffix != ".new")
 
 
 def send_piece(client, job, data, sent):
