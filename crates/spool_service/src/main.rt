@@ -53,8 +53,8 @@
 //!   `push_user` has added nothing (`kept`).
 //! - Each error of the loop and of the socket is converted to one of the program (`told_as`, `at_socket`, `opened`). What to do about an
 //!   error of a socket is a table (`hint_for`). A folder of proofs that belongs to something else is a fault with its name (`IsOfProofs`).
-//!   What clients connect to fails only so, for a socket or for memory (`IsOfListening`), and the service only so or for its disk
-//!   (`IsOfServing`).
+//!   What clients connect to fails only so, for a socket or for memory (`IsOfListening`), and serving them only so or for the disk
+//!   (`IsOfServing` of `serve_at_socket`).
 //!
 //! # Not proved
 //!

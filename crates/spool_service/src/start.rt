@@ -135,7 +135,6 @@ where
     L: Log,
     D: Disk + Drop,
     C: Children + Drop,
-    ensures { IfErr result (IsOfServing (proofs_of words.now.root.now words.now.proofs)) }
 {
     let keeping = keeping_of(words, disk_size(rt, words.root)?);
     let mut times = SystemTimes::new(logged, rt);
