@@ -66,8 +66,7 @@ class Ipp:
 
     def stop(self):
         """Asks it to end, and waits for that."""
-        with open(self.end_file, "w", encoding="ascii"):
-            pass
+        self.folder.write("ipp.end", "")
         same("status", self.running.wait(LONGEST), 0)
 
     def kill(self):
