@@ -43,7 +43,7 @@ class Ipp:
     @classmethod
     @contextlib.contextmanager
     def behind(cls, folder, proxy):
-        """A front whose connections to the service pass through a proxy, which `proxy` makes of the socket that listens, and this proxy."""
+        """A front whose connections to the service pass through a proxy, and this proxy, which `proxy` makes from the socket that listens."""
         folder.open("q", scheme="keeps")
         front = cls(folder)
         front.service = folder.at("between.sock")
