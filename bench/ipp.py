@@ -145,10 +145,6 @@ def printer():
     print_rates("answers to Get-Printer-Attributes per second, by connections", CONNECTIONS, medians(ways, CONNECTIONS))
 
 
-def ask_for_printer(connection):
-    connection.exchange(ipp.GET_PRINTER, QUEUE)
-
-
 def listing():
     """The servers have the same jobs, which are created once, and answer in turn."""
     with contextlib.ExitStack() as stack:
@@ -186,7 +182,7 @@ def memory_of_slow(server):
     """The memory of a server in KiB, idle and while clients send documents slowly."""
     with server() as started:
         connection = Connection(started.socket)
-        ask_for_printer(connection)
+        connection.exchange(ipp.GET_PRINTER, QUEUE)
         idle = memory_of(started.process)
         clients = [Connection(started.socket) for _ in range(SLOW)]
         for client in clients:

@@ -32,7 +32,7 @@ from pathlib import Path
 import pytest
 
 from harness import failover_volume
-from harness.checks import Difference, holds, LONGEST, same, until, words_of_faults
+from harness.checks import Difference, holds, listens, LONGEST, same, until, words_of_faults
 from harness.failover_volume import Volume
 from harness.programs import SERVICE
 from harness.service import Client, Gone, Submitter, TYPE
@@ -96,11 +96,7 @@ class Seat:
             holds(f"the service of {self.host.name} ended with {self.running.returncode}: {self.fault_log()}", self.fault_log() == OWNED)
             self.refused += 1
             self.launch()
-        try:
-            Client(self).close()
-            return True
-        except OSError:
-            return False
+        return listens(self.socket)
 
     def kill(self):
         self.running.kill()

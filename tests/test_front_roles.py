@@ -81,10 +81,7 @@ class Service(Serving):
         return self.answer(line, said)
 
     def answer(self, line, said):
-        if said == "i-am\n":
-            reply = self.offer()
-        else:
-            reply = self.reply_to(said)
+        reply = self.offer() if said == "i-am\n" else self.reply_to(said)
         if reply is None:
             return False
         line.sendall(reply.encode())

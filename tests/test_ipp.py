@@ -519,14 +519,10 @@ def test_service_killed_within_documents(folder, ipp):
 @pytest.mark.long
 def test_service_away(folder, ipp):
     """A request is answered with an error if the service is away for more than 30 seconds."""
-    os.kill(folder.running.pid, signal.SIGSTOP)
-    try:
-        with Connection(ipp.connect()) as line:
-            line.connection.settimeout(60)
-            line.post(message(PRINT_JOB, ipp.uri()) + b"x")
-            answers(line, b"\5\5")
-    finally:
-        os.kill(folder.running.pid, signal.SIGCONT)
+    with folder.paused(), Connection(ipp.connect()) as line:
+        line.connection.settimeout(60)
+        line.post(message(PRINT_JOB, ipp.uri()) + b"x")
+        answers(line, b"\5\5")
 
 
 def test_end(folder, ipp):

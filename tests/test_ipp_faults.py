@@ -1,4 +1,5 @@
 """Tests of the IPP front with connections that are cut, programs that are killed, damaged requests, and more clients than it serves."""
+import contextlib
 import itertools
 import os
 import random
@@ -333,11 +334,9 @@ def connect_for_nothing(port, count, stride):
     held = []
     for number in range(count):
         held.append(socket.create_connection(("127.0.0.1", port), timeout=LONGEST))
-        try:
+        # There may be no place for it.
+        with contextlib.suppress(ConnectionError):
             held[-1].sendall((b"", b"POST / HT", b"POST / HTTP/1.1\r\nHost: localhost\r\n", b"\x16\x03\x01")[number % 4])
-        except ConnectionError:
-            # There was no place for it.
-            pass
         if len(held) == stride:
             held.pop(0).close()
     for connection in held:

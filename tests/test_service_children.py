@@ -5,7 +5,7 @@ import time
 import pytest
 
 from harness.checks import holds, same, until
-from harness.child_folder import SIDE_END
+from harness.child_folder import CHANNEL, SIDE_END
 from harness.service import Client, is_there, listings, started, TYPE, undelayed
 
 # A backend that writes its process number and hangs, with a child of its own.
@@ -130,20 +130,10 @@ def test_a_child_that_ignores_its_end(folder):
 
 
 # A backend that asks ten times for its device's state, with a short delay between.
-ASKS = """#!/usr/bin/python3 -ES
-import os, socket, time
-line = socket.socket(socket.AF_UNIX, socket.SOCK_STREAM)
-line.settimeout(20)
-line.connect(os.environ["SPOOL_SIDE"])
+ASKS = CHANNEL + """
+line = call()
 for _ in range(10):
-    line.sendall(bytes.fromhex("05000000"))
-    answer = b""
-    while len(answer) < 5:
-        piece = line.recv(4096)
-        if not piece:
-            raise SystemExit(1)
-        answer += piece
-    if answer.hex() != "0501000107":
+    if ask(line, bytes.fromhex("05000000")) != "0501000107":
         raise SystemExit(1)
     time.sleep(0.02)
 """
@@ -176,25 +166,16 @@ def test_a_child_that_asks_while_it_runs(folder):
 
 # A backend that sends three requests of 65,535 bytes, each after the answer to the one before, then thirty of one byte, and writes how
 # long each kind took.
-ASKS_MUCH = """#!/usr/bin/python3 -ES
-import os, socket, time
-line = socket.socket(socket.AF_UNIX, socket.SOCK_STREAM)
+ASKS_MUCH = CHANNEL + """
+line = call()
 line.settimeout(60)
-line.connect(os.environ["SPOOL_SIDE"])
-def ask(times, length, status):
+def ask_often(times, length, status):
     began = time.monotonic()
     for _ in range(times):
-        line.sendall(b"\\5\\0" + length.to_bytes(2, "big") + bytes(length))
-        answer = b""
-        while len(answer) < 4 or len(answer) < 4 + int.from_bytes(answer[2:4], "big"):
-            piece = line.recv(4096)
-            if not piece:
-                raise SystemExit(1)
-            answer += piece
-        if answer[0] != 5 or answer[1] != status:
+        if not ask(line, b"\\5\\0" + length.to_bytes(2, "big") + bytes(length)).startswith(status):
             raise SystemExit(1)
     return time.monotonic() - began
-took = f"{ask(3, 65_535, 6)} {ask(30, 1, 1)}"
+took = f"{ask_often(3, 65_535, '0506')} {ask_often(30, 1, '0501')}"
 with open("FOLDER/took", "w") as file:
     file.write(took)
 """

@@ -299,9 +299,8 @@ def test_more_clients_than_slots(folder):
         same("a reply", client.ask("queues\n"), "ok 0")
     # Until it has nothing to do, and would sleep without a timeout.
     time.sleep(2)
-    folder.running.send_signal(signal.SIGSTOP)
-    late = [Client(folder) for _ in range(2 * SLOTS)]
-    folder.running.send_signal(signal.SIGCONT)
+    with folder.paused():
+        late = [Client(folder) for _ in range(2 * SLOTS)]
     for client in late:
         same("a client without a slot", (client.reply(), client.is_closed()), (BUSY, True))
     same("an admitted client", clients[0].ask("queues\n"), "ok 0")

@@ -343,8 +343,7 @@ def test_folders_of_others_are_not_taken(folder, people):
     os.chmod(foreign, 0o1733)
     os.chown(foreign, first.uid, first.gid)
     os.symlink(wrong, people.at("link"))
-    with open(people.at("file"), "w"):
-        pass
+    Path(people.at("file")).touch()
     for name in ("wrong", "foreign", "link", "file"):
         path = people.at(name)
         before = os.lstat(path).st_mode

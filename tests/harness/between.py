@@ -1,4 +1,5 @@
 """A proxy between a client of the service and the service, which sees each command and may answer it."""
+import contextlib
 import select
 
 from harness.printers import Serving
@@ -31,14 +32,11 @@ class Between(Serving):
 
     def serve(self, line):
         """Serves a connection until it ends or is lost."""
-        try:
+        with line, contextlib.suppress(OSError):
             service, held = Client(self.folder), b""
             while held is not None and line in select.select([line, service.connection], [], [])[0]:
                 piece = line.recv(1_048_576)
                 held = self.pass_on(line, service, held + piece) if piece else None
-        except OSError:
-            pass
-        line.close()
 
     def pass_on(self, line, service, data):
         """Passes on the whole commands in these bytes. Returns the rest, or None if the connection is lost."""

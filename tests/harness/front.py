@@ -146,17 +146,13 @@ class Played:
         try:
             for steps in connections:
                 line, _ = self.listener.accept()
-                with line:
-                    line.settimeout(LONGEST)
-                    self.serve_one(line, steps)
+                line.settimeout(LONGEST)
+                with line, line.makefile("rb") as stream:
+                    self.serve_steps(line, stream, steps)
         except (Difference, OSError, IndexError, ValueError) as fault:
             self.fault = fault
         self.listener.close()
         os.remove(self.path)
-
-    def serve_one(self, line, steps):
-        with line.makefile("rb") as stream:
-            self.serve_steps(line, stream, steps)
 
     def serve_steps(self, line, stream, steps):
         for wanted, reply, *seconds in steps:

@@ -43,7 +43,7 @@ class Ipp:
     @classmethod
     @contextlib.contextmanager
     def behind(cls, folder, proxy):
-        """A front whose connections to the service pass through a proxy, and this proxy. `proxy` makes it, given the socket that listens."""
+        """A front whose connections to the service pass through a proxy, and this proxy, which `proxy` makes from the socket that listens."""
         folder.open("q", scheme="keeps")
         front = cls(folder)
         front.service = folder.at("between.sock")
@@ -66,8 +66,7 @@ class Ipp:
 
     def stop(self):
         """Asks it to end, and waits for that."""
-        with open(self.end_file, "w", encoding="ascii"):
-            pass
+        self.folder.write("ipp.end", "")
         same("status", self.running.wait(LONGEST), 0)
 
     def kill(self):

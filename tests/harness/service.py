@@ -12,7 +12,7 @@ import threading
 import time
 from pathlib import Path
 
-from harness.checks import Difference, holds, LONGEST, same, timed, until
+from harness.checks import Difference, holds, listens, LONGEST, same, timed, until
 from harness.files import Place
 from harness.programs import SERVICE, SHELL
 
@@ -321,11 +321,7 @@ class Folder(Place):
     def serves(self):
         if self.running.poll() is not None:
             raise Difference(f"the service ended with {self.running.returncode}: {self.log()[-2000:]}")
-        try:
-            Client(self).close()
-            return True
-        except OSError:
-            return False
+        return listens(self.socket)
 
     def shut_down(self):
         """Shuts the service down, and waits for its end."""
