@@ -9,7 +9,8 @@
 //!
 //! - [`words`]: the arguments, and the files that they name.
 //! - [`names`]: removes a socket that no program serves, so that its name is free.
-//! - [`sockets`]: the listening sockets, the connections of clients and that to the service.
+//! - [`sockets`]: the listening sockets, the connections of clients and that to the service. One is watched for writing only while output
+//!   waits: after a write that can take nothing now it is (`waits` of `MioStream::write`).
 //! - [`clocks`]: the clocks of the system, and its random numbers.
 //!
 //! # Errors
@@ -28,6 +29,7 @@ use clocks::SystemTimes;
 use fault::StartFault;
 use ipp_loop::Front;
 use ipp_sockets::Times;
+use mio::Poll;
 use program_version::VERSION;
 use sockets::MioSockets;
 use std::process::ExitCode;
@@ -111,7 +113,9 @@ fn run(rt: &HostRuntime, words: &Words<'_>) -> Result<(), StartFault> {
     let mut times = SystemTimes::new(rt);
     let seconds = times.seconds();
     let world = world_of(rt, words, seconds)?;
-    let mut sockets = MioSockets::new(rt, words)?;
+    let poll = Poll::new(rt)?;
+    let registry = poll.registry().try_clone()?;
+    let mut sockets = MioSockets::new(rt, words, poll, &registry)?;
     let millis = times.millis();
     let mut front = Front::new(rt.alloc(), world, millis)?;
     front.serve(&mut sockets, &mut times)?;

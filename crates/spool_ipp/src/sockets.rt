@@ -1,4 +1,9 @@
 //! Sockets over mio.
+ghost use Rattle.std.specs.Prelude.{◌≡◌, true, OnOk};
+ghost use Rattle.std.specs.Io.{WritesAtMost};
+ghost use Rattle.mio.specs.Interest.{is_readable, is_writable};
+ghost use Rattle.spool_ipp.specs.Writes.{takes_later};
+
 use crate::fault::{StartFault, taken, unopened};
 use crate::names::free_name;
 use crate::words::{Words, owned};
@@ -6,10 +11,10 @@ use ipp_access::Place;
 use ipp_loop::MOST_CLIENTS;
 use ipp_sockets::{Readiness, Sockets, Stream};
 use mio::net::{TcpListener, TcpStream, UnixListener, UnixStream};
-use mio::{Events, Interest, Poll, Token};
+use mio::{Events, Interest, Poll, Registry, Token};
 use std::alloc::Global;
 use std::fs::Permissions;
-use std::io::{Read, Write};
+use std::io::{ErrorKind, Read, Write};
 use std::net::SocketAddr;
 use std::os::unix::fs::PermissionsExt;
 use std::time::Duration;
@@ -26,37 +31,130 @@ const SERVICE: usize = 3;
 
 const FIRST_CLIENT: usize = 4;
 
-/// A connection.
+/// A connection of the system.
 #[derive(Drop)]
-pub enum MioStream {
+pub enum Peer {
     Network(TcpStream),
     Local(UnixStream),
     Operators(UnixStream),
 }
 
-impl Stream for MioStream {
-    fn read(&mut self, piece: &mut [u8]) -> io::Result<usize> {
+impl Peer {
+    fn write(&mut self, text: &[u8]) -> io::Result<usize>
+        ensures { WritesAtMost result text.now }
+    {
         match self {
-            MioStream::Network(stream) => stream.read(piece),
-            MioStream::Local(stream) => stream.read(piece),
-            MioStream::Operators(stream) => stream.read(piece),
+            Peer::Network(stream) => stream.write(text),
+            Peer::Local(stream) => stream.write(text),
+            Peer::Operators(stream) => stream.write(text),
         }
     }
 
-    fn write(&mut self, text: &[u8]) -> io::Result<usize> {
+    // Reports the readiness of the connection from now on, under a token.
+    fn register(&mut self, registry: &Registry, token: Token) -> io::Result<()> {
+        let interest = interest(false);
         match self {
-            MioStream::Network(stream) => stream.write(text),
-            MioStream::Local(stream) => stream.write(text),
-            MioStream::Operators(stream) => stream.write(text),
+            Peer::Network(stream) => registry.register(stream, token, interest),
+            Peer::Local(stream) => registry.register(stream, token, interest),
+            Peer::Operators(stream) => registry.register(stream, token, interest),
         }
+    }
+
+    fn reregister(
+        &mut self,
+        registry: &Registry,
+        token: Token,
+        interest: Interest,
+    ) -> io::Result<()> {
+        match self {
+            Peer::Network(stream) => registry.reregister(stream, token, interest),
+            Peer::Local(stream) => registry.reregister(stream, token, interest),
+            Peer::Operators(stream) => registry.reregister(stream, token, interest),
+        }
+    }
+}
+
+/// A connection. That it can be written is reported only while output waits, because each read of the peer makes it writable.
+#[derive(Drop)]
+pub struct MioStream<'a> {
+    peer: Peer,
+    registry: &'a Registry,
+    token: Token,
+    // Whether the last write could take nothing, so that it is reported once one can.
+    waits: bool,
+}
+
+impl<'a> MioStream<'a> {
+    // Reports the readiness of the connection from now on, under a token.
+    fn watch(&mut self, token: Token) -> io::Result<()> {
+        self.token = token;
+        self.peer.register(self.registry, token)
+    }
+
+    // Notes whether output waits, so that it is reported once it can be written.
+    fn note(&mut self, waits: bool) -> io::Result<()>
+        ensures { OnOk result (self.new.waits ≡ waits) }
+    {
+        if waits != self.waits {
+            self.peer
+                .reregister(self.registry, self.token, interest(waits))?;
+            self.waits = waits;
+        }
+        Ok(())
+    }
+}
+
+impl<'a> Stream for MioStream<'a> {
+    fn read(&mut self, piece: &mut [u8]) -> io::Result<usize> {
+        match &mut self.peer {
+            Peer::Network(stream) => stream.read(piece),
+            Peer::Local(stream) => stream.read(piece),
+            Peer::Operators(stream) => stream.read(piece),
+        }
+    }
+
+    fn write(&mut self, text: &[u8]) -> io::Result<usize>
+        ensures bound { WritesAtMost result text.now }
+        // A connection whose output waits is reported once it can be written.
+        ensures waits { takes_later result ≡ true → self.new.waits ≡ true }
+    {
+        let written = self.peer.write(text);
+        let waits = takes_later(&written);
+        if self.note(waits).is_err() && waits {
+            // Nothing would report it, so it is given up as a connection that takes no more.
+            return Ok(0);
+        }
+        written
     }
 
     fn place(&self) -> Place {
-        match self {
-            MioStream::Network(_) => Place::Network,
-            MioStream::Local(_) => Place::Socket,
-            MioStream::Operators(_) => Place::Operators,
+        match &self.peer {
+            Peer::Network(_) => Place::Network,
+            Peer::Local(_) => Place::Socket,
+            Peer::Operators(_) => Place::Operators,
         }
+    }
+}
+
+// Returns whether a write could take nothing now.
+fn takes_later(written: &io::Result<usize>) -> bool
+    ensures { result ≡ takes_later written.now }
+{
+    match written {
+        Ok(_) => false,
+        Err(error) => error.kind() == ErrorKind::WouldBlock,
+    }
+}
+
+// Returns the events that are reported: that a connection can be written only if output waits.
+fn interest(waits: bool) -> Interest
+    ensures readable { is_readable result ≡ true }
+    ensures writable { is_writable result ≡ waits }
+{
+    if waits {
+        Interest::READABLE | Interest::WRITABLE
+    } else {
+        Interest::READABLE
     }
 }
 
@@ -64,6 +162,7 @@ impl Stream for MioStream {
 #[derive(Drop)]
 pub struct MioSockets<'a> {
     rt: &'a HostRuntime,
+    registry: &'a Registry,
     service: String,
     end: Option<String>,
     network: Option<TcpListener>,
@@ -75,18 +174,24 @@ pub struct MioSockets<'a> {
 }
 
 impl<'a> MioSockets<'a> {
-    /// Listens on the sockets of the arguments.
-    pub fn new(rt: &'a HostRuntime, words: &Words<'_>) -> Result<MioSockets<'a>, StartFault> {
+    /// Listens on the sockets of the arguments. `registry` is that of `poll`.
+    pub fn new(
+        rt: &'a HostRuntime,
+        words: &Words<'_>,
+        poll: Poll,
+        registry: &'a Registry,
+    ) -> Result<MioSockets<'a>, StartFault> {
         let alloc = rt.alloc();
         let room = MOST_CLIENTS + FIRST_CLIENT;
         let mut sockets = MioSockets {
             rt,
+            registry,
             service: String::from_str(alloc, words.service)?,
             end: owned(alloc, words.end)?,
             network: None,
             local: None,
             operators: None,
-            poll: Poll::new(rt)?,
+            poll,
             events: Events::with_capacity(alloc, room)?,
             ready: Vec::with_capacity(alloc, room)?,
         };
@@ -107,8 +212,8 @@ impl<'a> MioSockets<'a> {
 
     fn listen_on(&mut self, address: SocketAddr) -> io::Result<()> {
         let mut listener = TcpListener::bind(self.rt, address)?;
-        let registry = self.poll.registry();
-        registry.register(&mut listener, Token(NETWORK), Interest::READABLE)?;
+        self.registry
+            .register(&mut listener, Token(NETWORK), Interest::READABLE)?;
         self.network = Some(listener);
         Ok(())
     }
@@ -129,34 +234,44 @@ impl<'a> MioSockets<'a> {
     fn open(&self, path: &str, mode: u32, token: usize) -> io::Result<UnixListener> {
         let mut listener = UnixListener::bind(self.rt, path)?;
         fs::set_permissions(self.rt, path, Permissions::from_mode(mode))?;
-        let registry = self.poll.registry();
-        registry.register(&mut listener, Token(token), Interest::READABLE)?;
+        self.registry
+            .register(&mut listener, Token(token), Interest::READABLE)?;
         Ok(listener)
     }
 
-    fn accept_network(&self) -> Option<MioStream> {
+    // Returns a connection whose readiness is not reported yet.
+    fn stream(&self, peer: Peer) -> MioStream<'a> {
+        MioStream {
+            peer,
+            registry: self.registry,
+            token: Token(SERVICE),
+            waits: false,
+        }
+    }
+
+    fn accept_network(&self) -> Option<MioStream<'a>> {
         let listener = self.network.as_ref()?;
         match listener.accept() {
             Ok((stream, _)) => {
                 let _ = stream.set_nodelay(true);
-                Some(MioStream::Network(stream))
+                Some(self.stream(Peer::Network(stream)))
             }
             Err(_) => None,
         }
     }
 
-    fn accept_local(&self) -> Option<MioStream> {
+    fn accept_local(&self) -> Option<MioStream<'a>> {
         let listener = self.local.as_ref()?;
         match listener.accept() {
-            Ok((stream, _)) => Some(MioStream::Local(stream)),
+            Ok((stream, _)) => Some(self.stream(Peer::Local(stream))),
             Err(_) => None,
         }
     }
 
-    fn accept_operator(&self) -> Option<MioStream> {
+    fn accept_operator(&self) -> Option<MioStream<'a>> {
         let listener = self.operators.as_ref()?;
         match listener.accept() {
-            Ok((stream, _)) => Some(MioStream::Operators(stream)),
+            Ok((stream, _)) => Some(self.stream(Peer::Operators(stream))),
             Err(_) => None,
         }
     }
@@ -179,7 +294,7 @@ impl<'a> MioSockets<'a> {
 }
 
 impl<'a> Sockets for MioSockets<'a> {
-    type Stream = MioStream;
+    type Stream = MioStream<'a>;
 
     fn wait(&mut self, millis: u64) -> io::Result<()> {
         self.ready.clear();
@@ -192,7 +307,7 @@ impl<'a> Sockets for MioSockets<'a> {
         self.ready.pop()
     }
 
-    fn accept(&mut self) -> Option<MioStream> {
+    fn accept(&mut self) -> Option<MioStream<'a>> {
         if let Some(stream) = self.accept_operator() {
             return Some(stream);
         }
@@ -202,24 +317,16 @@ impl<'a> Sockets for MioSockets<'a> {
         self.accept_network()
     }
 
-    fn watch(&mut self, stream: &mut MioStream, key: usize) -> bool {
-        let both = Interest::READABLE | Interest::WRITABLE;
+    fn watch(&mut self, stream: &mut MioStream<'a>, key: usize) -> bool {
         let token = Token(key.saturating_add(FIRST_CLIENT));
-        let registry = self.poll.registry();
-        let watched = match stream {
-            MioStream::Network(stream) => registry.register(stream, token, both),
-            MioStream::Local(stream) => registry.register(stream, token, both),
-            MioStream::Operators(stream) => registry.register(stream, token, both),
-        };
-        watched.is_ok()
+        stream.watch(token).is_ok()
     }
 
-    fn connect(&mut self) -> Option<MioStream> {
-        let mut stream = UnixStream::connect(self.rt, self.service.as_str()).ok()?;
-        let both = Interest::READABLE | Interest::WRITABLE;
-        let registry = self.poll.registry();
-        match registry.register(&mut stream, Token(SERVICE), both) {
-            Ok(()) => Some(MioStream::Local(stream)),
+    fn connect(&mut self) -> Option<MioStream<'a>> {
+        let stream = UnixStream::connect(self.rt, self.service.as_str()).ok()?;
+        let mut stream = self.stream(Peer::Local(stream));
+        match stream.watch(Token(SERVICE)) {
+            Ok(()) => Some(stream),
             Err(_) => None,
         }
     }
