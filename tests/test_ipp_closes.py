@@ -1,5 +1,6 @@
 """Tests of the commands that the IPP front sends together: the last piece of a document, its close, and the command for the answer."""
 import contextlib
+import re
 import select
 import socket
 import time
@@ -186,12 +187,14 @@ def test_unshown_job(folder):
 
 # ---- output that waits
 
+@pytest.mark.strace
 def test_slow_reader(folder, ipp):
-    """A client that reads late gets the whole of an answer that does not fit into its buffer, and the answer to its next request."""
+    """A connection is watched for writing only while an answer waits, which does not fit into its buffer, until the rest is written."""
     Client(folder).does("disable q")
     name = attribute(NAME, "job-name", "n" * 250)
     at_once([lambda: [ipp.ask(PRINT_JOB, name, document=b"x") for _ in range(60)]] * 4)
-    with Connection(socket.socket(socket.AF_UNIX)) as line:
+    words = ["-f", "-e", "trace=epoll_wait,epoll_ctl,sendto"]
+    with folder.traced(*words, process=ipp.running.pid), Connection(socket.socket(socket.AF_UNIX)) as line:
         line.connection.settimeout(LONGEST)
         line.connection.connect(ipp.local)
         line.post(message(GET_JOBS, ipp.uri(), attribute(KEYWORD, "requested-attributes", "all")))
@@ -200,6 +203,13 @@ def test_slow_reader(folder, ipp):
         status, content = line.reply()
         same("jobs", (status, len(read(content)[1])), (200, 241))
         same("another", line.ask(message(GET_JOB, ipp.uri(), attribute(INTEGER, "job-id", 1)))[0], OK)
+    calls = folder.read("calls").splitlines()
+    changes = [re.search(r"EPOLL_CTL_MOD.*events=([A-Z|]*)", call) for call in calls]
+    changes = ["EPOLLOUT" in change[1] for change in changes if change]
+    holds(f"changes {changes}", changes and changes == [True, False] * (len(changes) // 2))
+    waits = sum("EAGAIN" in call for call in calls if "sendto" in call)
+    reports = sum("EPOLLOUT" in call for call in calls if "epoll_wait" in call)
+    holds(f"{waits} writes would wait, {reports} reports", len(changes) // 2 <= waits and 0 < reports <= waits)
 
 
 def test_slow_service(folder):
