@@ -14,8 +14,8 @@ is installed and the script runs as root. Both are asked over their Unix sockets
   each client. Only 12 MiB of each document are sent, because not all of them have room in the largest spool.
 
 `no syncs`, `syncs` and `syncs at once` of CUPS are those of service.py. CUPS syncs no document with any of them, while the service syncs
-each piece. The front makes three events of a job with a short document, and so six syncs, which it shares with other jobs of the same
-turns.
+each piece. The front makes three events of a job with a short document, with four syncs, which it shares with other jobs of the
+same turns.
 
 The script prints medians of several runs, and the ratios of the front to CUPS. Times depend on the machine and its disk, so only the ratios
 are of interest. The requests of the first three parts are sent by ipp_load.c, one process that waits for all connections, so that the time of
