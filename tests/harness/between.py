@@ -40,15 +40,17 @@ class Between(Serving):
 
     def pass_on(self, line, service, data):
         """Passes on the whole commands in these bytes. Returns the rest, or None if the connection is lost."""
-        words = []
+        commands = []
         while command := first_command(data):
-            words.append(command.split()[0].decode())
+            commands.append(command)
             data = data[len(command) :]
-            if not self.serves(line, service, words[-1], command):
-                data = None
-                break
+        words = [command.split()[0].decode() for command in commands]
         if words:
+            # Before the replies, after which a test may look.
             self.together.append(words)
+        for word, command in zip(words, commands):
+            if not self.serves(line, service, word, command):
+                return None
         return data
 
     def serves(self, line, service, word, command):
